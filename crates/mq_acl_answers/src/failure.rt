@@ -1,7 +1,7 @@
 ghost use Rattle.std.specs.Prelude.{◌≡◌, ◌⊎◌};
 ghost use Rattle.mq_acl_answers.specs.Statuses.{failure_status};
 
-use std::alloc::AllocError;
+use std::alloc::{AllocError, Global};
 use std::io::{self, ErrorKind};
 use thiserror::Error;
 
@@ -72,6 +72,27 @@ pub enum Failure<'a> {
         file: &'a str,
         others: u64,
     },
+    /// The steps don't suffice for this line of a file of expectations: so many rows have to be seen together with one of
+    /// a list.
+    #[error("{file}:{line}: gave up: line {row} of {list} and {others} other{s} overlap in too many ways", s = plural(*.others))]
+    TestGaveUp {
+        file: &'a str,
+        line: u64,
+        list: &'a str,
+        row: u64,
+        others: u64,
+    },
+    /// The steps don't suffice for this line: so many rows of a list have to be seen together with its filter.
+    #[error("{file}:{line}: gave up: the filter and {others} line{s} of {list} overlap in too many ways", s = plural(*.others))]
+    TestFilterGaveUp {
+        file: &'a str,
+        line: u64,
+        list: &'a str,
+        others: u64,
+    },
+    /// As it is told: of a file that a file of expectations names.
+    #[error("{0}")]
+    OfNamed(String),
     /// What is to be a topic is no topic name.
     #[error("mqroute-acl: {0:?} is no topic name")]
     Topic(&'a str),
@@ -126,6 +147,20 @@ impl<'a> Failure<'a> {
         match self {
             Failure::Write | Failure::Memory => FAILED,
             _ => UNREADABLE,
+        }
+    }
+
+    /// The same as it is told, where the names in it don't live as long as those of the command line.
+    pub fn of_named(alloc: Global, failure: Failure<'_>) -> Failure<'a>
+        ensures { (failure_status result ≡ failure_status failure.entry) ⊎ (result ≡ Failure.Memory) }
+    {
+        match failure {
+            Failure::Write => Failure::Write,
+            Failure::Memory => Failure::Memory,
+            other => match format!(in alloc; "{other}") {
+                Ok(text) => Failure::OfNamed(text),
+                Err(_) => Failure::Memory,
+            },
         }
     }
 

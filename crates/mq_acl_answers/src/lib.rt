@@ -17,5 +17,8 @@ pub use commands::script::{find_subscriptions, tell_subscriptions};
 pub use commands::who::{find_permissions, tell_who};
 pub use commands::why::{Explanation, explain, tell_why};
 pub use failure::{FAILED, Failure, UNREADABLE};
+pub use list::list_failure;
+pub use notes::add_who_limit;
+pub use otherwise::add_otherwise;
 pub use outcome::Outcome;
 pub use printing::{print, print_outcome};

@@ -1,6 +1,6 @@
 //! The rows of an access list.
-ghost use Rattle.std.specs.Prelude.{◌≡◌, Err, IfOk, IfErr};
-ghost use Rattle.mq_acl.specs.Rows.{rows_by};
+ghost use Rattle.std.specs.Prelude.{◌≡◌, ◌⊎◌, Err, IfOk, IfErr};
+ghost use Rattle.mq_acl.specs.Rows.{out_of_memory, rows_by};
 ghost use Rattle.mq_acl_answers.specs.Answers.{AreRows};
 ghost use Rattle.mq_acl_answers.specs.Failures.{IsListFailure};
 
@@ -26,6 +26,25 @@ fn line_failure<'a>(
     })
 }
 
+/// Why the list isn't read by these rules, where it has this fault, or memory ran out.
+pub fn list_failure<'a>(
+    alloc: Global,
+    rules: Rules,
+    list: ListText<'a, '_>,
+    fault: AclFault,
+) -> Failure<'a>
+    ensures { (fault ≡ out_of_memory) ⊎ (rows_by rules list.entry.text.now ≡ Err fault)
+        → IsListFailure rules list.entry result }
+{
+    if fault.kind == AclKind::Memory {
+        return Failure::Memory;
+    }
+    match line_failure(alloc, rules, list, fault) {
+        Ok(failure) => failure,
+        Err(_) => Failure::Memory,
+    }
+}
+
 /// The rows of the list, read by these rules.
 pub(crate) fn rows_in<'a>(
     alloc: Global,
@@ -37,9 +56,6 @@ pub(crate) fn rows_in<'a>(
 {
     match read_rows_by(alloc, rules, list.text) {
         Ok(rows) => Ok(rows),
-        Err(fault) => match fault.kind {
-            AclKind::Memory => Err(Failure::Memory),
-            _ => Err(line_failure(alloc, rules, list, fault)?),
-        },
+        Err(fault) => Err(list_failure(alloc, rules, list, fault)),
     }
 }

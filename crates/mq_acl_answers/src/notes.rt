@@ -71,7 +71,7 @@ pub(crate) fn add_limits(
 }
 
 /// Adds that by mosquitto's rules it isn't known of all client ids and user names who may.
-pub(crate) fn add_who_limit(notes: &mut String, rules: Rules) -> Result<(), AllocError>
+pub fn add_who_limit(notes: &mut String, rules: Rules) -> Result<(), AllocError>
     ensures { OnOk result (rules ≡ Own → notes.new ≡ notes.old) }
 {
     match rules {

@@ -115,7 +115,7 @@ fn is_decided_alike(
 
 /// Notes where mosquitto's rules decide otherwise by the list, if that is to be noted and the answer is by our own, and
 /// whether it is known that they allow the same.
-pub(crate) fn add_otherwise<'a>(
+pub fn add_otherwise<'a>(
     alloc: Global,
     notes: &mut String,
     list: ListText<'a, '_>,

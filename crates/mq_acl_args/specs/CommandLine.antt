@@ -16,7 +16,7 @@ use Rattle.mq_acl.specs.declared.rules.Rules.{Rules}
 use Rattle.mq_acl.specs.declared.rules.Rules.TheVariants.{Own}
 use Rattle.mq_findings.specs.declared.way.Way.{Way}
 use Rattle.mq_findings.specs.declared.way.Way.TheVariants.{Gained, Lost}
-use Rattle.mq_args.specs.Arguments.{flag, number_option, option, optional_argument}
+use Rattle.mq_args.specs.Arguments.{any_arguments, flag, number_option, option, optional_argument}
 use Rattle.mq_args.specs.Arguments.{required_argument}
 use Rattle.mq_args.specs.Arguments.{several_arguments, rule_for, with_rules}
 use Rattle.mq_args.specs.Numbers.{number_in}
@@ -105,16 +105,23 @@ who =
     (required_argument (codes "FILE") ∷ json_flag ∷ required_argument (codes "FILTER")
     ∷ access_option ∷ only_option ∷ steps_option ∷ rules_option ∷ [])
 
+-- `test EXPECTED [LIST..] [--steps N] [--rules RULES] [--json]`
+abbrev pub test : App
+test =
+    with_rules (new_app (codes "test"))
+    (required_argument (codes "EXPECTED") ∷ json_flag ∷ any_arguments (codes "LIST")
+    ∷ steps_option ∷ rules_option ∷ [])
+
 -- a command that wants a subcommand
 abbrev pub wanting : App → App
 wanting a = record a { top = record a.top { subcommand_required = true } }
 
--- `mqroute-acl compare|why|lint|reach|who ..`
+-- `mqroute-acl compare|why|lint|reach|who|test ..`
 abbrev pub mqroute_acl : App
 mqroute_acl =
-    with_subcommand (with_subcommand
+    with_subcommand (with_subcommand (with_subcommand
     (with_subcommand (with_subcommand (with_subcommand (wanting (new_app (codes "mqroute-acl")))
-    compare.top) why.top) lint.top) reach.top) who.top
+    compare.top) why.top) lint.top) reach.top) who.top) test.top
 
 -- what a subcommand with these values asks
 pub record ClientAsked : Type 0 where
@@ -128,6 +135,7 @@ pub data Asked : Type 0 where
   Reach : (file : Text) (client : ClientAsked) (filter : Text) → Asked
   ReachAll : (file script : Text) → Asked
   Who : (file wanted : Text) (access : Option Direction) (only : Option Text) → Asked
+  Test : (expected : Text) (lists : List Text) → Asked
 
 abbrev pub way_named : Text → Option Way
 way_named word =
@@ -203,6 +211,15 @@ who_asked_by rows =
     who_asked (first_of (codes "FILE") rows) (first_of (codes "FILTER") rows)
     (access_asked (codes "access") rows) (first_of (codes "only") rows)
 
+-- of a file of expectations, and the lists that are given, if some are
+abbrev pub test_asked : (expected : Option Text) → (lists : Option (List Text)) → Option Asked
+test_asked (Some expected) lists = Some (Test expected (unwrap_or lists []))
+test_asked None lists = None
+
+abbrev pub test_asked_by : List Row → Option Asked
+test_asked_by rows =
+    test_asked (first_of (codes "EXPECTED") rows) (all_of (codes "LIST") rows)
+
 abbrev pub asked : Text → List Row → Option Asked
 asked name rows =
     if bytes_eq name (codes "compare")
@@ -211,7 +228,8 @@ asked name rows =
     else (if bytes_eq name (codes "lint") then lint_asked (all_of (codes "FILE") rows)
     else (if bytes_eq name (codes "reach") then reach_asked_by rows
     else (if bytes_eq name (codes "who") then who_asked_by rows
-    else None))))
+    else (if bytes_eq name (codes "test") then test_asked_by rows
+    else None)))))
 
 -- the rules in these values, or our own where none are; none where the word for them is unknown
 abbrev pub rules_asked : List Row → Option Rules
@@ -249,6 +267,8 @@ question_view (asks.Reach file client filter) = Reach file.now (client_view clie
 question_view (asks.ReachAll file script) = ReachAll file.now script.now
 question_view (asks.Who file wanted selection) =
     Who file.now wanted.now selection.access (option_copied selection.only)
+question_view (asks.Test expected lists) =
+    Test expected.now (map (λ file. file.now) lists.items)
 
 -- the values of the subcommand
 abbrev pub values_of : Option (Text × List Row) → List Row
@@ -283,7 +303,7 @@ abbrev pub GivesAsked : Option (Text × List Row) → Option Request → Type 0
 GivesAsked subcommand (Some request) = IsAskedBy subcommand request
 GivesAsked subcommand None = asked_by subcommand ≡ None
 
--- the files that a question is about
+-- the files that a question names
 abbrev pub files_of : Asked → List Text
 files_of (Compare old new only) = old ∷ new ∷ []
 files_of (Why file client topic may) = file ∷ []
@@ -291,6 +311,7 @@ files_of (Lint files) = files
 files_of (Reach file client filter) = file ∷ []
 files_of (ReachAll file script) = file ∷ script ∷ []
 files_of (Who file wanted access only) = file ∷ []
+files_of (Test expected lists) = expected ∷ lists
 
 -- no more than one of them is standard input
 abbrev pub ReadsInputOnce : Asked → Type 0

@@ -10,11 +10,11 @@ ghost use Rattle.mq_acl_args.specs.CommandLine.{asked_by, AreGiven, CanNotBeAske
 ghost use Rattle.mq_acl_args.specs.CommandLine.{IsFaultOf};
 
 use crate::help::{
-    ABOUT, ACCESS_HELP, AFTER_HELP, CLIENT_HELP, COMPARE_ABOUT, COMPARE_AFTER_HELP, FILE_HELP,
-    FILES_HELP, FILTER_HELP, JSON_HELP, LINT_ABOUT, LINT_AFTER_HELP, MAY_HELP, NEW_HELP, OLD_HELP,
-    ONLY_HELP, REACH_ABOUT, REACH_AFTER_HELP, RULES_HELP, SCRIPT_HELP, STEPS_HELP, SUBSCRIBER_HELP,
-    TOPIC_HELP, USER_HELP, WANTED_HELP, WAY_HELP, WHO_ABOUT, WHO_AFTER_HELP, WHY_ABOUT,
-    WHY_AFTER_HELP,
+    ABOUT, ACCESS_HELP, AFTER_HELP, CLIENT_HELP, COMPARE_ABOUT, COMPARE_AFTER_HELP, EXPECTED_HELP,
+    FILE_HELP, FILES_HELP, FILTER_HELP, JSON_HELP, LINT_ABOUT, LINT_AFTER_HELP, LISTS_HELP,
+    MAY_HELP, NEW_HELP, OLD_HELP, ONLY_HELP, REACH_ABOUT, REACH_AFTER_HELP, RULES_HELP,
+    SCRIPT_HELP, STEPS_HELP, SUBSCRIBER_HELP, TEST_ABOUT, TEST_AFTER_HELP, TOPIC_HELP, USER_HELP,
+    WANTED_HELP, WAY_HELP, WHO_ABOUT, WHO_AFTER_HELP, WHY_ABOUT, WHY_AFTER_HELP,
 };
 use crate::request::{Request, request_in, unknown_access, unknown_rules, unknown_way};
 use clap::{ArgMatches, Command, Error};
@@ -130,6 +130,20 @@ const WHO: Subcommand<'static> = Subcommand {
     ],
 };
 
+// `test EXPECTED [LIST..] [--steps N] [--rules RULES] [--json]`
+const TEST: Subcommand<'static> = Subcommand {
+    name: "test",
+    about: TEST_ABOUT,
+    after_help: TEST_AFTER_HELP,
+    arguments: &[
+        Argument("EXPECTED", ArgumentKind::Required, EXPECTED_HELP),
+        Argument("json", ArgumentKind::Flag, JSON_HELP),
+        Argument("LIST", ArgumentKind::Any, LISTS_HELP),
+        Argument("steps", ArgumentKind::Number, STEPS_HELP),
+        Argument("rules", ArgumentKind::Option("RULES"), RULES_HELP),
+    ],
+};
+
 // The command that wants one of these subcommands.
 fn wanting_one_of<'a>(
     alloc: Global,
@@ -150,7 +164,7 @@ fn command<'a>(alloc: Global) -> Result<Command<'a>, AllocError>
     ensures { IfOk result (λ c. app_of c ≡ mqroute_acl) }
 {
     let named = described(alloc, "mqroute-acl", ABOUT, AFTER_HELP);
-    wanting_one_of(alloc, named, &[COMPARE, WHY, LINT, REACH, WHO])
+    wanting_one_of(alloc, named, &[COMPARE, WHY, LINT, REACH, WHO, TEST])
 }
 
 fn matches_in<'a>(alloc: Global, words: &'a [String]) -> Result<ArgMatches<'a>, Error>

@@ -9,19 +9,21 @@ answered holds for every client id that a broker can have, every user name that
 it can have or none, and every topic. It is by rules of our own; without --rules
 it is noted on standard error where mosquitto 2.0 decides otherwise. With --rules
 mosquitto it is by those of mosquitto 2.0, where compare and lint leave out ids
-and user names with /, + or # if a list has pattern lines, who leaves them out
-always, and they say so on standard error. A file - is standard input.
+and user names with /, + or # if a list has pattern lines, who and test leave
+them out always, and they say so on standard error. A file - is standard input.
 
 Exit status:
   0  both lists allow the same, or nothing of the way of --only differs, no line
      is remarked on other than lines that deny nothing, each subscription can be
      sent a topic, nobody may but those of --only, the client may what --may
-     says, or why without --may, or who without --only, was answered
+     says, each line of EXPECTED holds, or why without --may, or who without
+     --only, was answered
   1  the lists differ, a line is remarked on, a subscription is in vain, somebody
-     may other than those of --only, or the client may not what --may says
+     may other than those of --only, the client may not what --may says, or a
+     line of EXPECTED doesn't hold
   2  the arguments aren't understood, an access list can't be opened, read or
-     understood, a script can't be opened or read or has no command, or the
-     steps don't suffice
+     understood, EXPECTED can't be opened or read, a script can't be opened or
+     read or has no command, or the steps don't suffice
   3  a write failed, or memory ran out
 
 Example:
@@ -177,3 +179,50 @@ With --json each is an object with
            and user; line is null where no line allows it
   topic    the topic
   user     its user name, or null";
+
+pub(crate) const EXPECTED_HELP: &str = "The file of what is expected, or - for standard input";
+
+pub(crate) const LISTS_HELP: &str =
+    "The access lists to test, or - for one of them (those that acl lines of EXPECTED name)";
+
+pub(crate) const TEST_ABOUT: &str = "Tests access lists against what is expected of them";
+
+pub(crate) const TEST_AFTER_HELP: &str = "\
+Each line of EXPECTED says one thing:
+  acl FILE                        the lines behind it speak of this list
+  WHO may ACCESS FILTER           they may every topic that FILTER matches
+  WHO may some ACCESS FILTER      they may one topic at least
+  WHO may not ACCESS FILTER       they may none
+  anyone .. FILTER except A, B    of all but these
+  at most FILE                    the list allows nothing that this one doesn't
+  at least FILE                   it allows all that this one does
+WHO is a user name, anonymous, others (without lines of their own) or anyone;
+ACCESS is read, write or readwrite. In FILTER %c and %u, as whole levels, are the
+client's own id and user name. A line that begins with # is a comment.
+
+Lines that don't hold are shown, each with a client and a topic for which it
+doesn't and the line of the list that decides there; then how many hold. A line
+with a fault doesn't hold, nor does one about a user without lines.
+
+Where LISTs are given, the whole is tested of each, and acl lines are passed
+over. Files that EXPECTED names are found from the folder that the program runs
+in, and - is none of them.
+
+A step is a line that is looked at for one question. When the steps are spent
+nothing is answered. Each line of EXPECTED has as many.
+
+With --json each line of EXPECTED that says something is an object with
+  file, line, text  the line
+  list              the list that it is tested of, or null
+  holds             true or false
+  kind              holds, fails, differs, none may, unnamed, unasked, fault,
+                    long level, part of a level or no list
+  words             why it doesn't hold, or null
+  access, client, user, topic, made_up
+                    the client and the topic for which it doesn't, as compare
+                    has them; or null, and no made_up
+  decided, other    the line that decides there in the list, and in the one
+                    that it is compared with, with file, line and text; or null
+and the last object has
+  expectations      how many such lines there are
+  hold              how many of them hold";

@@ -1,12 +1,12 @@
 //! What the command line asks for.
-ghost use Rattle.std.specs.Prelude.{◌≡◌, Some, IfOk, codes, option_map};
+ghost use Rattle.std.specs.Prelude.{◌≡◌, [], Some, IfOk, codes, map, option_map, unwrap_or};
 ghost use Rattle.std.specs.Option.{option_copied};
 ghost use Rattle.clap.specs.Words.{all_of, first_of, rows_of, found_of, subcommand_rows_of};
 ghost use Rattle.mq_acl_args.specs.CommandLine.{question_view, asked, files_of, GivesAsked};
 ghost use Rattle.mq_acl_args.specs.CommandLine.{all_asked, compare_asked_by, lint_asked, one_asked};
 ghost use Rattle.mq_acl_args.specs.CommandLine.{reach_asked_by, rules_asked};
 ghost use Rattle.mq_acl_args.specs.CommandLine.{access_asked, direction_named, steps_given, way_asked, way_named};
-ghost use Rattle.mq_acl_args.specs.CommandLine.{noted_given};
+ghost use Rattle.mq_acl_args.specs.CommandLine.{noted_given, test_asked_by};
 ghost use Rattle.mq_acl_args.specs.CommandLine.{who_asked_by, why_asked_by};
 ghost use Rattle.mq_acl_args.specs.Files.{input_count};
 
@@ -66,6 +66,13 @@ pub enum Question<'a> {
         /// Of whom it is told.
         selection: Selection<'a>,
     },
+    /// Whether lists are as is expected of them.
+    Test {
+        /// The file of what is expected.
+        expected: &'a str,
+        /// The files of the lists, if others than those that it names are meant.
+        lists: Vec<&'a str>,
+    },
 }
 
 impl Question<'_> {
@@ -80,6 +87,9 @@ impl Question<'_> {
             Question::Reach { file, .. } => inputs_among(&[*file]),
             Question::ReachAll { file, script } => inputs_among(&[*file, *script]),
             Question::Who { file, .. } => inputs_among(&[*file]),
+            Question::Test { expected, lists } => {
+                inputs_among(&[*expected]) + inputs_among(lists.as_slice())
+            }
         }
     }
 }
@@ -265,6 +275,28 @@ fn who_in<'a>(matches: &ArgMatches<'a>) -> Option<Question<'a>>
     }
 }
 
+// The lists that are given, if some are.
+fn lists_in<'a>(alloc: Global, matches: &ArgMatches<'a>) -> Result<Vec<&'a str>, AllocError>
+    ensures { IfOk result (λ lists. map (λ file. file.now) lists.items
+        ≡ unwrap_or (all_of (codes "LIST") (rows_of (found_of matches.now))) []) }
+{
+    match matches.get_strs("LIST") {
+        Some(lists) => Vec::from_slice(alloc, lists),
+        None => Ok(Vec::new(alloc)),
+    }
+}
+
+fn test_in<'a>(alloc: Global, matches: &ArgMatches<'a>) -> Result<Option<Question<'a>>, AllocError>
+    ensures { IfOk result (λ question. option_map question_view question
+        ≡ test_asked_by (rows_of (found_of matches.now))) }
+{
+    let Some(expected) = value(matches, "EXPECTED") else {
+        return Ok(None);
+    };
+    let lists = lists_in(alloc, matches)?;
+    Ok(Some(Question::Test { expected, lists }))
+}
+
 fn question_in<'a>(
     alloc: Global,
     name: &str,
@@ -279,6 +311,7 @@ fn question_in<'a>(
         "lint" => lint_in(alloc, matches),
         "reach" => Ok(reach_in(matches)),
         "who" => Ok(who_in(matches)),
+        "test" => test_in(alloc, matches),
         _ => Ok(None),
     }
 }

@@ -23,6 +23,8 @@ pub use explanation::explanation_text;
 pub use faults::fault_words;
 pub use json::{Datum, add_object};
 pub use list::{Line, Lines, ListText, lines_of};
+pub use notes::notes_on;
 pub use permissions::{Asked, permissions_text};
 pub use subscriptions::subscriptions_text;
 pub use topic::topic_text;
+pub use who::who_text;

@@ -59,7 +59,7 @@ fn add_level(
 }
 
 /// What stands for others in a difference, in words, and the client id where it stands for itself alone.
-pub(crate) fn notes_on(alloc: Global, difference: &Difference) -> Result<String, AllocError> {
+pub fn notes_on(alloc: Global, difference: &Difference) -> Result<String, AllocError> {
     let mut notes = String::new(alloc);
     let mut seen = Vec::new(alloc);
     for (place, level) in difference.topic.text().split('/').enumerate() {

@@ -93,7 +93,7 @@ fn add_classes(alloc: Global, text: &mut String, all: &[&Difference]) -> Result<
 }
 
 /// The clients of these, in words.
-pub(crate) fn who_text(alloc: Global, all: &[&Difference]) -> Result<String, AllocError> {
+pub fn who_text(alloc: Global, all: &[&Difference]) -> Result<String, AllocError> {
     let mut text = String::new(alloc);
     add_classes(alloc, &mut text, all)?;
     Ok(text)

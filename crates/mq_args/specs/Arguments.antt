@@ -19,6 +19,10 @@ several_arguments name = record (required_argument name) { action = Some Append 
 abbrev pub optional_argument : Text → Rule
 optional_argument name = record (new_rule name) { value_names = 1 }
 
+-- any number of them
+abbrev pub any_arguments : Text → Rule
+any_arguments name = record (optional_argument name) { action = Some Append }
+
 -- `--NAME VALUE`
 abbrev pub option : Text → Rule
 option name = record (new_rule name) { long = Some name; value_names = 1 }
@@ -39,6 +43,7 @@ abbrev pub rule_of_kind : Text → ArgumentKind → Rule
 rule_of_kind name takes.Required = required_argument name
 rule_of_kind name takes.Several = several_arguments name
 rule_of_kind name (takes.Optional value) = optional_argument name
+rule_of_kind name takes.Any = any_arguments name
 rule_of_kind name (takes.Option value) = option name
 rule_of_kind name takes.Number = number_option name
 rule_of_kind name takes.Flag = flag name

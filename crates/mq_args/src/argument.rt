@@ -21,6 +21,8 @@ pub enum ArgumentKind<'a> {
     Several,
     /// One that may be left out.
     Optional(&'a str),
+    /// Any number of them.
+    Any,
     /// `--NAME VALUE`
     Option(&'a str),
     /// `--NAME N`, a whole number of 32 bits.
@@ -44,6 +46,7 @@ impl<'a> Argument<'a> {
                 .required(true)
                 .action(ArgAction::Append),
             ArgumentKind::Optional(value) => arg.value_name(value),
+            ArgumentKind::Any => arg.value_name(name).action(ArgAction::Append),
             ArgumentKind::Option(value) => arg.long(name).value_name(value),
             ArgumentKind::Number => arg
                 .long(name)

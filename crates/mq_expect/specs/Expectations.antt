@@ -4,7 +4,7 @@ use Rattle.std.specs.Prelude.{ℕ, Bool, true, false, List, length, ◌==◌, �
 use Rattle.std.specs.Prelude.{[], map, codes, slice_index, Option, Some, None, Result, Ok, Err}
 use Rattle.std.specs.List.{list_all, slice_split}
 use Rattle.std.specs.Str.{bytes_eq}
-use Rattle.mq_topic.specs.Texts.{is_filter}
+use Rattle.mq_topic.specs.Texts.{is_filter, is_shared}
 use Rattle.mq_topic.specs.Levels.{levels}
 use Rattle.mq_acl.specs.Lines.{Access, Read, Write, ReadWrite, is_pattern_level}
 use Rattle.mq_acl.specs.Words.{after_word, first_word, trimmed}
@@ -111,11 +111,15 @@ claim_with whom how access topics (Ok except) =
       except = except;
     }))
 
+-- a topic filter, and no shared subscription: those are no topics
+abbrev pub is_unshared : List ℕ → Bool
+is_unshared text = not (is_shared text) && is_filter text
+
 -- what follows the access word: the filter, and those that are excepted
 abbrev pub claim_of : Whom → Holds → Option Access → List ℕ → Result Entry ExpectationKind
 claim_of whom how None rest = Err kinds.Access
 claim_of whom how (Some access) rest =
-    if not (is_filter (first_word rest)) then Err kinds.Filter
+    if not (is_unshared (first_word rest)) then Err kinds.Filter
     else (if list_all is_pattern_level (levels (first_word rest)) then
     claim_with whom how access (first_word rest) (except_of whom (after_word rest))
     else Err kinds.Pattern)

@@ -1,10 +1,11 @@
 //! What a line says.
 ghost use Rattle.std.specs.Prelude.{◌≡◌, ◌⊎◌, MatchResult, IfOk, IfErr, IsTrue, false, Ok, Err};
 ghost use Rattle.std.specs.Option.{option_copied, option_map};
-ghost use Rattle.mq_topic.specs.Texts.{is_filter};
+ghost use Rattle.mq_topic.specs.Texts.{is_shared};
 ghost use Rattle.mq_acl.specs.Views.{access_view};
 ghost use Rattle.mq_expect.specs.Expectations.{access_named, are_names, behind_may, bound_entry};
 ghost use Rattle.mq_expect.specs.Expectations.{claim_of, entry_of, except_of, holds_of, is_anyone, is_name};
+ghost use Rattle.mq_expect.specs.Expectations.{is_unshared};
 ghost use Rattle.mq_expect.specs.Expectations.{keyword_entry, may_entry, whom_of};
 ghost use Rattle.mq_expect.specs.Views.{Answers, whom_view};
 
@@ -95,11 +96,20 @@ fn except_of<'a>(whom: &Whom, rest: &'a str) -> Result<Option<&'a str>, Expectat
     Err(ExpectationKind::Except)
 }
 
-fn parse_filter(alloc: Global, text: &str) -> Result<TopicFilter, ExpectationKind>
-    ensures ok { IfOk result (λ filter. (filter ≡ text.now) × IsTrue (is_filter text.now)) }
-    ensures fault { IfErr result (λ kind. (kind ≡ ExpectationKind.Memory)
-        ⊎ ((kind ≡ ExpectationKind.Filter) × (is_filter text.now ≡ false))) }
+fn is_shared(text: &str) -> bool
+    ensures { result ≡ is_shared text.now }
 {
+    text.starts_with("$share/")
+}
+
+fn parse_filter(alloc: Global, text: &str) -> Result<TopicFilter, ExpectationKind>
+    ensures ok { IfOk result (λ filter. (filter ≡ text.now) × IsTrue (is_unshared text.now)) }
+    ensures fault { IfErr result (λ kind. (kind ≡ ExpectationKind.Memory)
+        ⊎ ((kind ≡ ExpectationKind.Filter) × (is_unshared text.now ≡ false))) }
+{
+    if is_shared(text) {
+        return Err(ExpectationKind::Filter);
+    }
     match TopicFilter::parse(alloc, text) {
         Ok(filter) => Ok(filter),
         Err(TopicFault::Memory) => Err(ExpectationKind::Memory),

@@ -7,7 +7,7 @@ pub enum ExpectationKind {
     File,
     /// Behind `may`, and `not` or `some`, stands none of `read`, `write` and `readwrite`.
     Access,
-    /// The filter is missing, or no valid topic filter.
+    /// The filter is missing, no valid topic filter, or a shared subscription.
     Filter,
     /// `%c` or `%u` stands in the filter and is no whole level.
     Pattern,

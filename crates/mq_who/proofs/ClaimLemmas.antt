@@ -34,7 +34,7 @@ use Rattle.mq_who.specs.Claims.{IsBroken, IsJudgement, IsKept, IsMissing, IsNone
 use Rattle.mq_who.specs.declared.judge.Judgement.{Judgement}
 use Rattle.mq_who.specs.declared.judge.Judgement.TheVariants as judged
 use Rattle.mq_who.specs.Claims.{AllowsNone, AllowsOne, AreOthers, IsAgainst, KeepsTo, has_class}
-use Rattle.mq_who.specs.Claims.{is_claimed, is_known, is_meant, is_meant_in, is_one}
+use Rattle.mq_who.specs.Claims.{is_asked_about, is_claimed, is_known, is_meant, is_meant_in, is_one}
 use Rattle.mq_who.specs.Who.{IsListing, IsReal, are_asked, is_asked, is_case, is_listed_in}
 use Rattle.mq_who.specs.Who.{is_member}
 use Rattle.mq_who.proofs.ExtentLemmas.{any_weaker, direction_is, direction_itself}
@@ -107,7 +107,7 @@ claimed_is rows claim others user class direction o m =
     && grants direction claim.access)
 
 -- ---- what is found
-found : {X : Type 0} (p : X → Bool) (P : X → Type 0) (xs : List X) (x : X) → find p xs ≡ Some x
+pub found : {X : Type 0} (p : X → Bool) (P : X → Type 0) (xs : List X) (x : X) → find p xs ≡ Some x
     → All P xs → (p x ≡ true) × P x
 found p P [] x e h = absurd (cc)
 found p P (y ∷ ys) x e h = at (p y) refl e (All-head P y ys h) (λ f. found p P ys x f (All-tail P y ys h))
@@ -118,7 +118,7 @@ found p P (y ∷ ys) x e h = at (p y) refl e (All-head P y ys h) (λ f. found p 
         let is : y ≡ x = cc in (ap p (sym is) ∙ t, subst P is h)
     at false t e h f = f e
 
-found_none : {X : Type 0} (p : X → Bool) (xs : List X) → find p xs ≡ None
+pub found_none : {X : Type 0} (p : X → Bool) (xs : List X) → find p xs ≡ None
     → list_any p xs ≡ false
 found_none p [] e = refl
 found_none p (y ∷ ys) e = at (p y) e (found_none p ys)
@@ -280,25 +280,34 @@ in_each rules rows claim others all o l r w Writing g =
 
 -- ---- the judgement
 pub every_judged : (rules : Rules) (rows : List Row) (claim : Claim) (j : Judgement)
-    → claim.holds ≡ holds.Every → IsNone rules false rows claim j → IsJudgement rules rows claim j
-every_judged rules rows claim judged.Holds e n = subst (IsKept rules rows claim) (sym e) n
-every_judged rules rows claim (judged.Fails d) e n =
-    subst (λ h. IsBroken rules rows claim h d.now) (sym e) n
-every_judged rules rows claim (judged.NoneMay direction) e n = absurd n
-every_judged rules rows claim (judged.Unnamed user) e n = absurd n
+    → is_asked_about rules claim.whom ≡ true → claim.holds ≡ holds.Every
+    → IsNone rules false rows claim j → IsJudgement rules rows claim j
+every_judged rules rows claim judged.Holds a e n =
+    (a, subst (IsKept rules rows claim) (sym e) n)
+every_judged rules rows claim (judged.Fails d) a e n =
+    subst (λ h. IsBroken rules rows claim h d) (sym e) n
+every_judged rules rows claim (judged.NoneMay direction) a e n = absurd n
+every_judged rules rows claim (judged.Unnamed user) a e n = absurd n
+every_judged rules rows claim (judged.Unasked user) a e n = absurd n
 
 pub never_judged : (rules : Rules) (rows : List Row) (claim : Claim) (j : Judgement)
-    → claim.holds ≡ holds.Never → IsNone rules true rows claim j → IsJudgement rules rows claim j
-never_judged rules rows claim judged.Holds e n = subst (IsKept rules rows claim) (sym e) n
-never_judged rules rows claim (judged.Fails d) e n =
-    subst (λ h. IsBroken rules rows claim h d.now) (sym e) n
-never_judged rules rows claim (judged.NoneMay direction) e n = absurd n
-never_judged rules rows claim (judged.Unnamed user) e n = absurd n
+    → is_asked_about rules claim.whom ≡ true → claim.holds ≡ holds.Never
+    → IsNone rules true rows claim j → IsJudgement rules rows claim j
+never_judged rules rows claim judged.Holds a e n =
+    (a, subst (IsKept rules rows claim) (sym e) n)
+never_judged rules rows claim (judged.Fails d) a e n =
+    subst (λ h. IsBroken rules rows claim h d) (sym e) n
+never_judged rules rows claim (judged.NoneMay direction) a e n = absurd n
+never_judged rules rows claim (judged.Unnamed user) a e n = absurd n
+never_judged rules rows claim (judged.Unasked user) a e n = absurd n
 
 pub one_judged : (rules : Rules) (rows : List Row) (claim : Claim) (j : Judgement)
-    → claim.holds ≡ holds.AtLeastOne → IsOne rules rows claim j → IsJudgement rules rows claim j
-one_judged rules rows claim judged.Holds e n = subst (IsKept rules rows claim) (sym e) n
-one_judged rules rows claim (judged.Fails d) e n = absurd n
-one_judged rules rows claim (judged.NoneMay direction) e n =
+    → is_asked_about rules claim.whom ≡ true → claim.holds ≡ holds.AtLeastOne
+    → IsOne rules rows claim j → IsJudgement rules rows claim j
+one_judged rules rows claim judged.Holds a e n =
+    (a, subst (IsKept rules rows claim) (sym e) n)
+one_judged rules rows claim (judged.Fails d) a e n = absurd n
+one_judged rules rows claim (judged.NoneMay direction) a e n =
     subst (λ h. IsMissing rules rows claim h direction) (sym e) n
-one_judged rules rows claim (judged.Unnamed user) e n = absurd n
+one_judged rules rows claim (judged.Unnamed user) a e n = absurd n
+one_judged rules rows claim (judged.Unasked user) a e n = absurd n

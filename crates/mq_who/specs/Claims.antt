@@ -1,5 +1,6 @@
 -- Whether a list keeps to what is expected of it.
-use Rattle.std.specs.Prelude.{◌≡◌, ℕ, Bool, true, false, List, ◌&&◌, not, Option, Some, None}
+use Rattle.std.specs.Prelude.{◌≡◌, ℕ, Bool, true, false, List, ◌&&◌, ◌⊎◌, not, Option, Some, None, Contains}
+use denote.Ref.{Bor}
 use Rattle.std.specs.List.{list_all, list_any}
 use Rattle.std.specs.Str.{bytes_eq}
 use Rattle.std.specs.Prelude.{map, string_bytes}
@@ -11,6 +12,8 @@ use Rattle.mq_acl.specs.Views.{row_views}
 use Rattle.mq_acl.specs.declared.access.Direction.{Direction}
 use Rattle.mq_acl.specs.declared.row.Row.{Row}
 use Rattle.mq_acl.specs.declared.rules.Rules.{Rules}
+use Rattle.mq_acl.specs.declared.rules.Rules.TheVariants.{Own, Mosquitto}
+use Rattle.mq_cover.specs.Names.{can_be_level}
 use Rattle.mq_witness.specs.Clients.{can_be_id}
 use Rattle.mq_witness.specs.Rows.{is_user_of}
 use Rattle.mq_findings.specs.Classes.{can_be_user, user_of}
@@ -97,13 +100,32 @@ IsMissing rules rows claim AtLeastOne direction =
     (grants direction claim.access ≡ true) × AllowsNone rules rows claim direction
 IsMissing rules rows claim how direction = ⊥
 
+-- ---- what is said
+-- by mosquitto's rules nothing is asked about a user whose name has a slash or a wildcard
+abbrev pub is_asked_about : Rules → Whom → Bool
+is_asked_about Own whom = true
+is_asked_about Mosquitto Anyone = true
+is_asked_about Mosquitto Anonymous = true
+is_asked_about Mosquitto Others = true
+is_asked_about Mosquitto (User name) = can_be_level name
+
+abbrev pub IsUnasked : Rules → Whom → Bor (List ℕ) → Type 0
+IsUnasked rules whom name = (whom ≡ User name.now) × (is_asked_about rules whom ≡ false)
+
+-- no line names a user that the claim means or excepts
+abbrev pub IsUnnamed : List Row → Claim → Bor (List ℕ) → Type 0
+IsUnnamed rows claim name = (is_user_of name.now (row_views rows) ≡ false)
+    × ((claim.whom ≡ User name.now) ⊎ Contains (excepted claim.except) (User name.now))
+
 -- what is said of the claim is so
 abbrev pub IsJudgement : Rules → List Row → Claim → Judgement → Type 0
-IsJudgement rules rows claim judged.Holds = IsKept rules rows claim claim.holds
-IsJudgement rules rows claim (judged.Fails d) = IsBroken rules rows claim claim.holds d.now
+IsJudgement rules rows claim judged.Holds =
+    (is_asked_about rules claim.whom ≡ true) × IsKept rules rows claim claim.holds
+IsJudgement rules rows claim (judged.Fails d) = IsBroken rules rows claim claim.holds d
 IsJudgement rules rows claim (judged.NoneMay direction) =
     IsMissing rules rows claim claim.holds direction
-IsJudgement rules rows claim (judged.Unnamed user) = is_user_of user.now (row_views rows) ≡ false
+IsJudgement rules rows claim (judged.Unnamed user) = IsUnnamed rows claim user
+IsJudgement rules rows claim (judged.Unasked user) = IsUnasked rules claim.whom user
 
 -- ---- by classes
 -- the clients of the class are among these
@@ -145,9 +167,10 @@ pub record AreOthers (rows : List Row) (claim : Claim) (others : List Named) : T
 -- none of what is listed is meant, or one is
 abbrev pub IsNone : Rules → (allows : Bool) → List Row → Claim → Judgement → Type 0
 IsNone rules allows rows claim judged.Holds = KeepsTo rules (not allows) rows claim
-IsNone rules allows rows claim (judged.Fails d) = IsAgainst rules allows rows claim d.now
+IsNone rules allows rows claim (judged.Fails d) = IsAgainst rules allows rows claim d
 IsNone rules allows rows claim (judged.NoneMay direction) = ⊥
 IsNone rules allows rows claim (judged.Unnamed user) = ⊥
+IsNone rules allows rows claim (judged.Unasked user) = ⊥
 
 -- in each direction one is meant, or in one of them none is
 abbrev pub IsOne : Rules → List Row → Claim → Judgement → Type 0
@@ -157,3 +180,4 @@ IsOne rules rows claim (judged.Fails d) = ⊥
 IsOne rules rows claim (judged.NoneMay direction) =
     (grants direction claim.access ≡ true) × AllowsNone rules rows claim direction
 IsOne rules rows claim (judged.Unnamed user) = ⊥
+IsOne rules rows claim (judged.Unasked user) = ⊥

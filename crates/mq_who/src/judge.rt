@@ -1,36 +1,44 @@
 //! Whether a list keeps to what is expected of it.
-ghost use Rattle.std.specs.Prelude.{◌≡◌, ◌&&◌, Bool, List, IfOk, IfSome, IfNone, true, false, find, map, not};
+ghost use Rattle.std.specs.Prelude.{◌≡◌, ◌&&◌, Bool, List, IfOk, IfErr, IfSome, IfNone, Contains, true, false, find, map, not};
 ghost use Rattle.std.specs.List.{list_all, list_any};
-ghost use Rattle.std.specs.Option.{option_copied};
+ghost use Rattle.mq_topic.specs.Texts.{contains_byte};
 ghost use Rattle.mq_acl.specs.Access.{grants};
 ghost use Rattle.mq_acl.specs.Views.{access_view, owner_view, row_view, row_views};
-ghost use Rattle.mq_witness.specs.Rows.{is_name_of, is_user_of};
 ghost use Rattle.mq_acl.specs.declared.row.Row.{Row};
 ghost use Rattle.mq_acl.specs.declared.rules.Rules.{Rules};
+ghost use Rattle.mq_cover.specs.Names.{can_be_level};
+ghost use Rattle.mq_witness.specs.Limits.{has_short_levels};
+ghost use Rattle.mq_witness.specs.Rows.{is_name_of, is_user_of};
+ghost use Rattle.mq_expect.specs.Expectations.{User, excepted};
 ghost use Rattle.mq_expect.specs.Views.{claim_view, whom_view};
-ghost use Rattle.mq_who.specs.Claims.{AreOthers, IsJudgement, IsNone, IsOne, has_class, is_known};
-ghost use Rattle.mq_who.specs.Claims.{is_meant, is_meant_in};
+ghost use Rattle.mq_who.specs.Claims.{AreOthers, IsJudgement, IsNone, IsOne, IsUnasked, has_class};
+ghost use Rattle.mq_who.specs.Claims.{is_asked_about, is_known, is_meant, is_meant_in};
+ghost use Rattle.mq_who.specs.Faults.{IsWhoFault};
 ghost use Rattle.mq_who.specs.Who.{IsListing};
 
 use crate::extent::same_direction;
-use crate::permissions::Permissions;
-use mq_acl::{Direction, Owner, Row, grants};
+use crate::fault::WhoFault;
+use crate::permissions::{has_short_levels, listed};
+use mq_acl::{Direction, Owner, Row, Rules, grants};
 use mq_expect::{Claim, Holds, Whom};
 use mq_findings::{Class, Difference};
-use std::alloc::{AllocError, Global};
+use mq_topic::LevelText;
+use std::alloc::Global;
 
 /// Whether a list keeps to what is expected of it.
-#[derive(Clone, Copy, Debug, Drop)]
+#[derive(Debug, Drop)]
 pub enum Judgement<'p> {
     /// It does, for each client and topic that is asked about: by mosquitto's rules clients whose id or user name holds
     /// `/`, `+` or `#` aren't.
     Holds,
-    /// It doesn't for this client and topic.
-    Fails(&'p Difference),
+    /// It doesn't for this client and topic. `old_reason` is the line that decides.
+    Fails(Difference),
     /// One topic at least is expected to be allowed, and none is in this direction.
     NoneMay(Direction),
     /// No line of the list names this user.
     Unnamed(&'p str),
+    /// By mosquitto's rules nothing is asked about this user, whose name holds `/`, `+` or `#`.
+    Unasked(&'p str),
 }
 
 fn is_name_of(name: &str, owner: &Owner) -> bool
@@ -57,7 +65,8 @@ fn names_user(rows: &[Row], name: &str) -> bool
 // The user that the list doesn't name, if it is one.
 fn unnamed<'p>(rows: &[Row], whom: Whom<'p>) -> Option<&'p str>
     ensures none { IfNone result (is_known (row_views rows.now) (whom_view whom.entry) ≡ true) }
-    ensures some { IfSome result (λ name. is_user_of name.now (row_views rows.now) ≡ false) }
+    ensures some { IfSome result (λ name. (is_user_of name.now (row_views rows.now) ≡ false)
+        × (whom_view whom.entry ≡ User name.now)) }
 {
     let Whom::User(name) = whom else {
         return None;
@@ -72,7 +81,8 @@ fn unnamed<'p>(rows: &[Row], whom: Whom<'p>) -> Option<&'p str>
 fn first_unnamed<'p>(rows: &[Row], all: &[Whom<'p>]) -> Option<&'p str>
     ensures none { IfNone result (list_all (λ w. is_known (row_views rows.now) (whom_view w)) all.now
         ≡ true) }
-    ensures some { IfSome result (λ name. is_user_of name.now (row_views rows.now) ≡ false) }
+    ensures some { IfSome result (λ name. (is_user_of name.now (row_views rows.now) ≡ false)
+        × Contains (map whom_view all.now) (User name.now)) }
 {
     for whom in all {
         if let Some(name) = unnamed(rows, *whom) {
@@ -80,6 +90,30 @@ fn first_unnamed<'p>(rows: &[Row], all: &[Whom<'p>]) -> Option<&'p str>
         }
     }
     None
+}
+
+fn has_byte(text: &str, byte: u8) -> bool
+    ensures { result ≡ contains_byte byte text.now }
+{
+    text.bytes().any(|other| other == byte)
+}
+
+// Whether a level of a name can be this text.
+fn can_be_level(text: &str) -> bool
+    ensures { result ≡ can_be_level text.now }
+{
+    !has_byte(text, b'+') && !has_byte(text, b'#') && !has_byte(text, 0) && !has_byte(text, b'/')
+}
+
+// The user that by these rules nothing is asked about, if it is one.
+fn unasked<'p>(rules: Rules, whom: Whom<'p>) -> Option<&'p str>
+    ensures none { IfNone result (is_asked_about rules (whom_view whom.entry) ≡ true) }
+    ensures some { IfSome result (IsUnasked rules (whom_view whom.entry)) }
+{
+    match (rules, whom) {
+        (Rules::Mosquitto, Whom::User(name)) if !can_be_level(name) => Some(name),
+        _ => None,
+    }
 }
 
 fn has_class(class: &Class, whom: &Whom) -> bool
@@ -110,15 +144,10 @@ fn is_meant(claim: &Claim, others: &[Whom], d: &Difference) -> bool
 }
 
 // The first that is meant.
-fn first<'p>(
-    differences: &'p [Difference],
-    claim: &Claim,
-    others: &[Whom],
-) -> Option<&'p Difference>
-    ensures { option_copied result
-        ≡ find (is_meant (claim_view claim.now) others.now) differences.entry.now }
+fn first(differences: Vec<Difference>, claim: &Claim, others: &[Whom]) -> Option<Difference>
+    ensures { result ≡ find (is_meant (claim_view claim.now) others.now) differences.items }
 {
-    differences.iter().find(|d| is_meant(claim, others, d))
+    differences.into_iter().find(|d| is_meant(claim, others, d))
 }
 
 // Whether one of a direction is meant.
@@ -138,10 +167,10 @@ fn misses(granted: &[Difference], claim: &Claim, others: &[Whom], direction: Dir
 }
 
 // Of what is listed, none is to be meant.
-fn none_of<'p>(listed: &'p [Difference], claim: &Claim, others: &[Whom]) -> Judgement<'p>
+fn none_of<'p>(listed: Vec<Difference>, claim: &Claim, others: &[Whom]) -> Judgement<'p>
     ensures { (rules : Rules) (allows : Bool) (rows : List Row)
         → AreOthers rows (claim_view claim.now) others.now
-        → IsListing rules allows rows claim.now.filter listed.entry.now
+        → IsListing rules allows rows claim.now.filter listed.items
         → IsNone rules allows rows (claim_view claim.now) result }
 {
     match first(listed, claim, others) {
@@ -166,30 +195,82 @@ fn at_least_one<'p>(granted: &[Difference], claim: &Claim, others: &[Whom]) -> J
     Judgement::Holds
 }
 
-impl Permissions {
-    /// Whether the list keeps to the claim, where these are the permissions for the filter of the claim.
-    pub fn judge<'p>(
-        &'p self,
-        alloc: Global,
-        rows: &[Row],
-        claim: &Claim<'p>,
-    ) -> Result<Judgement<'p>, AllocError>
-        ensures { IfOk result (λ judgement. (rules : Rules)
-            → IsListing rules true rows.now claim.now.filter self.entry.now.granted.items
-            → IsListing rules false rows.now claim.now.filter self.entry.now.refused.items
-            → IsJudgement rules rows.now (claim_view claim.now) judgement) }
-    {
-        let others = claim.excepted(alloc)?;
-        if let Some(name) = unnamed(rows, claim.whom) {
-            return Ok(Judgement::Unnamed(name));
+// What is said in place of an answer, if the list doesn't name a user, or nothing is asked about one.
+fn unanswered<'p>(
+    rules: Rules,
+    rows: &[Row],
+    claim: &Claim<'p>,
+    others: &[Whom<'p>],
+) -> Option<Judgement<'p>>
+    ensures known { IfNone result (excepted (claim_view claim.now).except ≡ map whom_view others.now
+        → AreOthers rows.now (claim_view claim.now) others.now) }
+    ensures asked { IfNone result (is_asked_about rules (whom_view claim.now.whom) ≡ true) }
+    ensures some { excepted (claim_view claim.now).except ≡ map whom_view others.now
+        → IfSome result (IsJudgement rules rows.now (claim_view claim.now)) }
+{
+    if let Some(name) = unnamed(rows, claim.whom) {
+        return Some(Judgement::Unnamed(name));
+    }
+    if let Some(name) = first_unnamed(rows, others) {
+        return Some(Judgement::Unnamed(name));
+    }
+    let name = unasked(rules, claim.whom)?;
+    Some(Judgement::Unasked(name))
+}
+
+// What is said by what the list allows of the filter, or by what it doesn't.
+fn answer<'p>(
+    alloc: Global,
+    rules: Rules,
+    rows: &[Row],
+    claim: &Claim<'p>,
+    others: &[Whom<'p>],
+    steps: u64,
+) -> Result<Judgement<'p>, WhoFault>
+    requires short { has_short_levels claim.now.filter ≡ true }
+    requires others { AreOthers rows.now (claim_view claim.now) others.now }
+    requires asked { is_asked_about rules (whom_view claim.now.whom) ≡ true }
+    ensures judgement { IfOk result (IsJudgement rules rows.now (claim_view claim.now)) }
+    ensures fault { IfErr result (IsWhoFault rules rows.now claim.now.filter steps) }
+{
+    let wanted = &claim.filter;
+    match claim.holds {
+        Holds::Every => {
+            let refused = listed(alloc, rules, false, rows, wanted, steps)?;
+            Ok(none_of(refused, claim, others))
         }
-        if let Some(name) = first_unnamed(rows, &others) {
-            return Ok(Judgement::Unnamed(name));
+        Holds::Never => {
+            let granted = listed(alloc, rules, true, rows, wanted, steps)?;
+            Ok(none_of(granted, claim, others))
         }
-        match claim.holds {
-            Holds::Every => Ok(none_of(&self.refused, claim, &others)),
-            Holds::Never => Ok(none_of(&self.granted, claim, &others)),
-            Holds::AtLeastOne => Ok(at_least_one(&self.granted, claim, &others)),
+        Holds::AtLeastOne => {
+            let granted = listed(alloc, rules, true, rows, wanted, steps)?;
+            Ok(at_least_one(&granted, claim, others))
         }
     }
+}
+
+/// Whether by these rules the list keeps to the claim. By mosquitto's rules a claim isn't about clients whose id or user
+/// name holds `/`, `+` or `#`; of one about such a user alone it is said that nothing is asked.
+///
+/// So many steps are given to a comparison of the list with one of one row. Where they don't suffice the question is given
+/// up.
+pub fn judge_claim<'p>(
+    alloc: Global,
+    rules: Rules,
+    rows: &[Row],
+    claim: &Claim<'p>,
+    steps: u64,
+) -> Result<Judgement<'p>, WhoFault>
+    ensures judgement { IfOk result (IsJudgement rules rows.now (claim_view claim.now)) }
+    ensures fault { IfErr result (IsWhoFault rules rows.now claim.now.filter steps) }
+{
+    let others = claim.excepted(alloc)?;
+    if let Some(judgement) = unanswered(rules, rows, claim, &others) {
+        return Ok(judgement);
+    }
+    if !has_short_levels(claim.filter.text()) {
+        return Err(WhoFault::Filter);
+    }
+    answer(alloc, rules, rows, claim, &others, steps)
 }

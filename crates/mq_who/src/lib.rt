@@ -9,5 +9,5 @@ mod permissions;
 
 pub use extent::Extent;
 pub use fault::WhoFault;
-pub use judge::Judgement;
+pub use judge::{Judgement, judge_claim};
 pub use permissions::{Permissions, who_may};

@@ -35,7 +35,7 @@ impl Drop for Permissions {
     }
 }
 
-fn has_short_levels(text: &str) -> bool
+pub(crate) fn has_short_levels(text: &str) -> bool
     ensures { result ≡ has_short_levels text.now }
 {
     text.split('/').all(|level| level.len() <= 300)
@@ -79,8 +79,8 @@ fn changes(
     }
 }
 
-// What the list allows of what the filter matches, or what it doesn't.
-fn listed(
+/// What the list allows of what the filter matches, or what it doesn't.
+pub(crate) fn listed(
     alloc: Global,
     rules: Rules,
     allows: bool,

@@ -70,7 +70,7 @@ texts_parted files i =
     ∙ ap texts (take-append-drop i files))
 
 -- of files of which one at most is standard input the next is so where no earlier one is
-next_input : (files : List (Bor (List ℕ))) (i : ℕ) (d : Bor (List ℕ)) → i < length files
+pub next_input : (files : List (Bor (List ℕ))) (i : ℕ) (d : Bor (List ℕ)) → i < length files
     → input_count (texts files) ≤ 1 → is_input (get_or files i d).now ≡ true
     → input_count (texts (take i files)) ≡ 0
 next_input files i d low once e =
@@ -82,6 +82,28 @@ next_input files i d low once e =
     let all : input_count (texts (take (i + 1) files)) + input_count (texts (drop (i + 1) files))
     ≡ input_count (texts files) = texts_parted files (i + 1) in
     omega arith
+
+-- where a file is standard input, some is
+pub some_input : (files : List (Bor (List ℕ))) (i : ℕ) (d : Bor (List ℕ)) → i < length files
+    → is_input (get_or files i d).now ≡ true → 1 ≤ input_count (texts files)
+some_input files i d low e =
+    let here : ℕ = one_if (is_input (get_or files i d).now) in
+    let parts : input_count (texts (take (i + 1) files))
+    ≡ input_count (texts (take i files)) + (0 + here) =
+    texts_more files i d low in
+    let one : here ≡ 1 = ap one_if e in
+    let all : input_count (texts (take (i + 1) files)) + input_count (texts (drop (i + 1) files))
+    ≡ input_count (texts files) = texts_parted files (i + 1) in
+    omega arith
+
+-- where one of the files behind it is standard input, a file isn't, if one at most is
+pub first_is_none : (file : List ℕ) (files : List (List ℕ)) → input_count (file ∷ files) ≤ 1
+    → 1 ≤ input_count files → is_input file ≡ false
+first_is_none file files once some =
+    let here : ℕ = one_if (is_input file) in
+    let all : input_count (file ∷ files) ≡ (0 + here) + input_count files =
+    sum_by-append (λ f. one_if (is_input f)) (file ∷ []) files in
+    is_none (is_input file) (omega arith)
 
 -- where none of the files so far is standard input, it is left alone
 pub kept_more : {X : Type 0} (start before after : X)

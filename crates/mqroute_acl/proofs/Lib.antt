@@ -1,3 +1,4 @@
 pub mod FilesLemmas
 pub mod ListFileLemmas
 pub mod ProgramLemmas
+pub mod TestLemmas

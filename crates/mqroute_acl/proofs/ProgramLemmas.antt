@@ -2,7 +2,7 @@
 use Rattle.std.proofs.Common.{ℕ, Bool, List, Option}
 use Rattle.mq_acl.specs.declared.rules.Rules.{Rules}
 use Rattle.mq_acl_answers.specs.declared.outcome.Outcome.{Outcome}
-use Rattle.mq_acl_args.specs.CommandLine.{Asked, Compare, Why, Lint, Reach, ReachAll, Who}
+use Rattle.mq_acl_args.specs.CommandLine.{Asked, Compare, Why, Lint, Reach, ReachAll, Who, Test}
 use Rattle.mqroute_acl.specs.Program.{IsAnswer}
 
 -- where `other` follows from `quiet`, it holds of the answer too
@@ -22,3 +22,13 @@ answer-weaker rules noted input (ReachAll file script) outcome follows is =
     (is.0, is.1, is.2, is.3, is.4, λ own plain. follows (is.5 own plain))
 answer-weaker rules noted input (Who file wanted access only) outcome follows is =
     (is.0, is.1, is.2, λ own plain. follows (is.3 own plain))
+answer-weaker rules noted input (Test expected lists) outcome follows is = (
+  is.0,
+  is.1,
+  record {
+    lists = is.2.lists;
+    read = is.2.read;
+    told = is.2.told;
+    silent = λ own plain. follows (is.2.silent own plain);
+  },
+)

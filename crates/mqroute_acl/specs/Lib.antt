@@ -1,4 +1,5 @@
 pub mod Files
 pub mod ListFile
 pub mod Lint
+pub mod Test
 pub mod Program

@@ -5,7 +5,7 @@ use Rattle.mq_acl.specs.declared.rules.Rules.{Rules}
 use Rattle.mq_acl.specs.declared.rules.Rules.TheVariants.{Own}
 use Rattle.mq_args.specs.declared.usage.UsageFault.{UsageFault}
 use Rattle.mq_args.specs.declared.usage.UsageFault.TheVariants.{Help, Usage, Memory}
-use Rattle.mq_acl_args.specs.CommandLine.{Asked, Compare, Why, Lint, Reach, ReachAll, Who}
+use Rattle.mq_acl_args.specs.CommandLine.{Asked, Compare, Why, Lint, Reach, ReachAll, Who, Test}
 use Rattle.mq_acl_args.specs.CommandLine.{ReadsInputOnce}
 use Rattle.mq_acl_answers.specs.Answers.{IsCompared, IsExplained, IsReached}
 use Rattle.mq_acl_answers.specs.Notes.{IsQuiet}
@@ -15,6 +15,7 @@ use Rattle.mq_acl_answers.specs.Who.{IsWho}
 use Rattle.mq_acl_answers.specs.declared.outcome.Outcome.{Outcome}
 use Rattle.mqroute_acl.specs.Files.{IsTextOf}
 use Rattle.mqroute_acl.specs.Lint.{AreLinted}
+use Rattle.mqroute_acl.specs.Test.{IsTested}
 
 -- the outcome is right for texts that the files may have, where the input holds this; and by our own rules `quiet` holds, but
 -- where it is noted what mosquitto decides otherwise for `lint` and for a list that isn't plain
@@ -39,6 +40,8 @@ IsAnswer rules noted input (ReachAll file script) outcome quiet = (text lines : 
 IsAnswer rules noted input (Who file wanted access only) outcome quiet = (text : List ℕ)
     × IsTextOf input file text × IsWho rules text wanted access only outcome
     × (rules ≡ Own → IsQuiet noted text → quiet)
+IsAnswer rules noted input (Test expected lists) outcome quiet = (text : List ℕ)
+    × IsTextOf input expected text × IsTested rules noted input text lists outcome quiet
 
 -- what is asked can be asked, and is answered with this status
 abbrev pub IsAnswered : Rules → (noted : Bool) → (input : Option (List ℕ)) → Option Asked → ℕ

@@ -35,7 +35,19 @@ fn text_in<'a, R: Read + Drop>(
     }
 }
 
-/// The text of the file of an access list.
+/// The text of a file, whatever its name.
+pub(crate) fn opened_text<'a, R: Files>(
+    rt: &R,
+    alloc: Global,
+    file: &'a str,
+) -> Result<String, Failure<'a>> {
+    match fs::open(rt, file) {
+        Ok(opened) => text_in(alloc, file, opened),
+        Err(error) => Err(Failure::of_io(file, error)),
+    }
+}
+
+/// The text of the file of an access list, which is standard input where it is `-`.
 pub(crate) fn text_of<'a, R: Files, I: Read>(
     rt: &R,
     alloc: Global,
@@ -51,8 +63,5 @@ pub(crate) fn text_of<'a, R: Files, I: Read>(
     if is_input(file) {
         return text_in(alloc, file, &mut *input);
     }
-    match fs::open(rt, file) {
-        Ok(opened) => text_in(alloc, file, opened),
-        Err(error) => Err(Failure::of_io(file, error)),
-    }
+    opened_text(rt, alloc, file)
 }

@@ -5,6 +5,7 @@ mod files;
 mod lint;
 mod list_file;
 mod program;
+mod test;
 
 use crate::program::start;
 use mq_acl_answers::{FAILED, UNREADABLE};

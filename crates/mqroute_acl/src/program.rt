@@ -18,6 +18,7 @@ ghost use Rattle.mqroute_acl.specs.Program.{IsAnswer, IsAnswered, TellsUsage};
 
 use crate::files::text_of;
 use crate::lint::answer_lint;
+use crate::test::answer_test;
 use mq_acl::Direction;
 use mq_acl_answers::{
     FAILED, Failure, Outcome, UNREADABLE, print, tell_changes, tell_reach, tell_subscriptions,
@@ -257,6 +258,10 @@ fn answer<'a, R: Files, I: Read, W: Write>(
         } => {
             let about = (file, wanted, selection);
             answer_who(rt, alloc, about, options, input, out, notes)
+        }
+        Question::Test { expected, lists } => {
+            let lists = lists.as_slice();
+            answer_test(rt, alloc, expected, lists, options, input, out, notes)
         }
     }
 }

@@ -37,3 +37,11 @@ returns-in-Who-clause-ok g c = rw c.in-Who.is c.answer_who.ensures.ok
 
 pub returns-in-Who-clause-unread : goal.returns-in-Who-clause-unread
 returns-in-Who-clause-unread g c = c.answer_who.ensures.unread
+
+pub returns-in-Test-clause-ok : goal.returns-in-Test-clause-ok
+returns-in-Test-clause-ok g c =
+    rw c.in-Test.is
+    (rw (rw c.in-Test.is at c.as_slice-lists.ensures.value) at c.answer_test.ensures.ok)
+
+pub returns-in-Test-clause-unread : goal.returns-in-Test-clause-unread
+returns-in-Test-clause-unread g c = c.answer_test.ensures.unread

@@ -1,0 +1,3 @@
+pub mod BoundLemmas
+pub mod VerdictLemmas
+pub mod FileLemmas

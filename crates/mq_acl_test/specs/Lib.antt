@@ -1,0 +1,5 @@
+pub mod Lists
+pub mod Questions
+pub mod Findings
+pub mod Faults
+pub mod Files

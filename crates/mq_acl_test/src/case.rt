@@ -1,0 +1,97 @@
+//! The client and the topic that show that a line doesn't hold, and the lines that decide there.
+use crate::finding::Finding;
+use crate::list::ReadList;
+use crate::verdicts::Verdict;
+use mq_acl_print::{Line, ListText};
+use mq_expect::Expectation;
+use mq_findings::{Difference, Reason};
+
+/// A client and a topic, with what decides in each list.
+#[derive(Clone, Copy, Drop)]
+pub(crate) struct Case<'v> {
+    /// The client, the topic and the direction.
+    pub(crate) shown: &'v Difference,
+    /// What decides in the list.
+    pub(crate) decided: Decided<'v>,
+    /// What decides in the one that it is compared with, if it is.
+    pub(crate) other: Option<Decided<'v>>,
+}
+
+/// What decides in a list.
+#[derive(Clone, Copy, Drop)]
+pub(crate) struct Decided<'v> {
+    pub(crate) list: ListText<'v, 'v>,
+    pub(crate) reason: Reason,
+}
+
+impl<'v> Decided<'v> {
+    /// The line that decides, if one does.
+    pub(crate) fn line(self) -> Option<Line<'v>> {
+        let number = self.reason.line()?;
+        Some(Line {
+            file: self.list.file,
+            number,
+            text: self.list.line(number),
+        })
+    }
+
+    /// Whether it is allowed.
+    pub(crate) fn is_allowed(self) -> bool {
+        matches!(self.reason, Reason::Grant(_))
+    }
+}
+
+// The list of this file.
+fn list_text<'v>(lists: &'v [ReadList<'v, 'v>], file: &'v str) -> ListText<'v, 'v> {
+    match lists.iter().find(|read| read.list.file == file) {
+        Some(read) => read.list,
+        None => ListText { file, text: "" },
+    }
+}
+
+// The file behind `at most` or `at least`.
+fn bound_file<'a>(says: &Expectation<'a>) -> Option<&'a str> {
+    match says {
+        Expectation::AtMost(file) => Some(*file),
+        Expectation::AtLeast(file) => Some(*file),
+        _ => None,
+    }
+}
+
+// What decides in the list of this file.
+fn decision<'v>(
+    lists: &'v [ReadList<'v, 'v>],
+    file: Option<&'v str>,
+    reason: Reason,
+) -> Option<Decided<'v>> {
+    let list = list_text(lists, file?);
+    Some(Decided { list, reason })
+}
+
+/// The client and the topic that show it, if some do.
+pub(crate) fn case_of<'v>(
+    lists: &'v [ReadList<'v, 'v>],
+    verdict: &'v Verdict<'v, 'v>,
+) -> Option<Case<'v>> {
+    let file = verdict.asked.list;
+    match &verdict.finding {
+        Finding::Fails(shown) => Some(Case {
+            shown,
+            decided: decision(lists, file, shown.old_reason)?,
+            other: None,
+        }),
+        Finding::Differs(shown) => Some(Case {
+            shown,
+            decided: decision(lists, file, shown.new_reason)?,
+            other: decision(lists, bound_of(verdict), shown.old_reason),
+        }),
+        _ => None,
+    }
+}
+
+fn bound_of<'v>(verdict: &'v Verdict<'v, 'v>) -> Option<&'v str> {
+    match &verdict.asked.expectation.says {
+        Ok(says) => bound_file(says),
+        Err(_) => None,
+    }
+}

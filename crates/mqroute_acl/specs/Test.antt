@@ -1,0 +1,62 @@
+-- Whether lists are as a file of expectations says.
+use Rattle.std.specs.Prelude.{◌≡◌, ℕ, Bool, true, List, Option, All, string_bytes}
+use Rattle.std.specs.List.{list_any}
+use Rattle.std.specs.Str.{bytes_eq}
+use Rattle.mq_acl.specs.declared.rules.Rules.{Rules}
+use Rattle.mq_acl.specs.declared.rules.Rules.TheVariants.{Own}
+use Rattle.mq_expect.specs.Files.{expectations_of}
+use Rattle.mq_acl_test.specs.Findings.{AllHold, SomeFails}
+use Rattle.mq_acl_test.specs.Questions.{Question, questions}
+use Rattle.mq_acl_test.specs.declared.list.ReadList.{ReadList}
+use Rattle.mq_acl_answers.specs.Answers.{AreRows}
+use Rattle.mq_acl_answers.specs.Notes.{IsQuiet}
+use Rattle.mq_acl_answers.specs.declared.outcome.Outcome.{Outcome}
+use Rattle.mq_acl_answers.specs.declared.outcome.Outcome.TheVariants.{Clear, Remark}
+use Rattle.mqroute_acl.specs.Files.{IsTextOf}
+use Rattle.mqroute_acl.specs.declared.test.ListFile.{ListFile}
+
+-- the file stands among these
+abbrev pub is_among : (file : List ℕ) → (files : List (List ℕ)) → Bool
+is_among file files = list_any (bytes_eq file) files
+
+-- a file that the command line gives may have this text; what one has that only the expectations name, no
+-- contract can say
+abbrev pub IsListText : (input : Option (List ℕ)) → (given : List (List ℕ)) → (file text : List ℕ)
+    → Type 0
+IsListText input given file text = is_among file given ≡ true → IsTextOf input file text
+
+-- the list was read by these rules from a text that its file may have
+pub record IsRead (rules : Rules) (input : Option (List ℕ)) (given : List (List ℕ))
+    (r : ReadList) : Type 0 where
+  pub text : IsListText input given r.list.file.now r.list.text.now
+  pub rows : AreRows rules r.list.text.now r.rows.items
+
+-- each line that asks something holds; or one doesn't
+abbrev pub TellsTested : Rules → List ReadList → List Question → Outcome → Type 0
+TellsTested rules lists all Clear = AllHold rules lists all
+TellsTested rules lists all Remark = SomeFails rules lists all
+
+-- so it is of the expectations with this text, of the lists that are given or else of those that it names; and by our own
+-- rules `quiet` holds, but where it is noted what mosquitto decides otherwise for a list that isn't plain
+pub record IsTested (rules : Rules) (noted : Bool) (input : Option (List ℕ)) (text : List ℕ)
+    (given : List (List ℕ)) (outcome : Outcome) (quiet : Type 0) : Type 0 where
+  pub lists : List ReadList
+  pub read : All (IsRead rules input given) lists
+  pub told : TellsTested rules lists (questions given (expectations_of text)) outcome
+  pub silent : rules ≡ Own → All (λ r. IsQuiet noted r.list.text.now) lists → quiet
+
+-- ---- before the lists are read
+-- the text that was read of a file is one that it may have
+abbrev pub IsGiven : (input : Option (List ℕ)) → ListFile → Type 0
+IsGiven input l = IsTextOf input l.file.now (string_bytes l.text)
+
+-- and so it is where the command line gives the file
+abbrev pub IsNamed : (input : Option (List ℕ)) → (given : List (List ℕ)) → ListFile → Type 0
+IsNamed input given l = IsListText input given l.file.now (string_bytes l.text)
+
+abbrev pub AreNamed : (input : Option (List ℕ)) → (given : List (List ℕ)) → List ListFile → Type 0
+AreNamed input given lists = All (IsNamed input given) lists
+
+abbrev pub AreRead : Rules → (input : Option (List ℕ)) → (given : List (List ℕ)) → List ReadList
+    → Type 0
+AreRead rules input given lists = All (IsRead rules input given) lists

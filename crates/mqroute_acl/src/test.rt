@@ -1,0 +1,314 @@
+//! The answer to `test`: whether lists are as a file of expectations says.
+ghost use Rattle.std.specs.Prelude.{◌≡◌, ◌≤◌, ◌++◌, ◌∷◌, [], ℕ, List, Option, All, IfOk, IfErr, OnOk, map};
+ghost use Rattle.std.specs.List.{list_any};
+ghost use Rattle.std.specs.Str.{bytes_eq};
+ghost use Rattle.mq_acl.specs.declared.rules.Rules.{Rules};
+ghost use Rattle.mq_acl.specs.declared.rules.Rules.TheVariants.{Own};
+ghost use Rattle.mq_acl_answers.specs.Notes.{IsQuiet};
+ghost use Rattle.mq_acl_answers.specs.Statuses.{failure_status};
+ghost use Rattle.mq_acl_args.specs.Files.{input_count};
+ghost use Rattle.mq_acl_test.specs.Findings.{IsVerdict};
+ghost use Rattle.mq_expect.specs.Files.{numbered_views};
+ghost use Rattle.mq_acl_test.specs.Questions.{asked_view, questions};
+ghost use Rattle.mq_acl_test.specs.declared.list.ReadList.{ReadList};
+ghost use Rattle.mqroute_acl.specs.Files.{IsTextOf};
+ghost use Rattle.mqroute_acl.specs.Test.{AreNamed, AreRead, IsGiven, IsNamed, IsRead, IsTested, TellsTested};
+
+use crate::files::{opened_text, text_of};
+use mq_acl::Rules;
+use mq_acl_answers::{Failure, Outcome, add_otherwise, add_who_limit, list_failure, print_outcome};
+use mq_acl_args::Options;
+use mq_acl_print::ListText;
+use mq_acl_test::{
+    ReadList, TestFault, Verdict, all_hold, judge_all, read_list, verdicts_text, wanted_files,
+};
+use mq_expect::{Numbered, read_expectations};
+use std::alloc::{AllocError, Global};
+use std::io::{self, ErrorKind, Read, Write};
+use std::rt::Files;
+
+/// The file of a list, and its text.
+#[derive(Drop)]
+pub(crate) struct ListFile<'a> {
+    /// Its name.
+    pub(crate) file: &'a str,
+    /// Its text.
+    pub(crate) text: String,
+}
+
+fn add_text<'t>(
+    lists: &mut Vec<ListFile<'t>>,
+    file: &'t str,
+    text: String,
+) -> Result<(), AllocError>
+    ensures { OnOk result (lists.new.items
+        ≡ lists.old.items ++ (record { file = file.entry; text = text } ∷ [])) }
+{
+    lists.push(ListFile { file, text })?;
+    Ok(())
+}
+
+fn add_read<'t, 'l>(
+    all: &mut Vec<ReadList<'t, 'l>>,
+    read: ReadList<'t, 'l>,
+) -> Result<(), AllocError>
+    ensures { OnOk result (all.new.items ≡ all.old.items ++ (read.entry ∷ [])) }
+{
+    all.push(read)?;
+    Ok(())
+}
+
+// The texts of the lists that the command line gives.
+fn given_texts<'a, R: Files, I: Read>(
+    rt: &R,
+    alloc: Global,
+    given: &[&'a str],
+    input: &mut I,
+) -> Result<Vec<ListFile<'a>>, Failure<'a>>
+    requires { input_count (map (λ file. file.now) given.now) ≤ 1 }
+    ensures ok { IfOk result (λ lists. (known : Option (List ℕ))
+        → (1 ≤ input_count (map (λ file. file.now) given.now) → known ≡ I.remaining input.old)
+        → All (IsGiven known) lists.items) }
+    ensures kept { input_count (map (λ file. file.now) given.now) ≡ 0 → input.new ≡ input.old }
+{
+    let mut lists = Vec::new(alloc);
+    for file in given {
+        let text = text_of(rt, alloc, *file, input)?;
+        add_text(&mut lists, *file, text)?;
+    }
+    Ok(lists)
+}
+
+fn has_file(files: &[&str], file: &str) -> bool
+    ensures { result ≡ list_any (λ other. bytes_eq file.now other.now) files.now }
+{
+    files.iter().any(|other| file == *other)
+}
+
+// Adds the text of a list that the expectations name, unless the command line gives it.
+fn add_named<'t, R: Files>(
+    rt: &R,
+    alloc: Global,
+    given: &[&'t str],
+    file: &'t str,
+    lists: &mut Vec<ListFile<'t>>,
+) -> Result<(), Failure<'t>>
+    ensures { OnOk result ((input : Option (List ℕ))
+        → AreNamed input (map (λ other. other.now) given.now) lists.old.items
+        → AreNamed input (map (λ other. other.now) given.now) lists.new.items) }
+{
+    if has_file(given, file) {
+        return Ok(());
+    }
+    let text = opened_text(rt, alloc, file)?;
+    add_text(lists, file, text)?;
+    Ok(())
+}
+
+// Adds those of the lists that the expectations name.
+fn add_all_named<'t, R: Files>(
+    rt: &R,
+    alloc: Global,
+    given: &[&'t str],
+    wanted: &[&'t str],
+    lists: &mut Vec<ListFile<'t>>,
+) -> Result<(), Failure<'t>>
+    ensures { OnOk result ((input : Option (List ℕ))
+        → AreNamed input (map (λ other. other.now) given.now) lists.old.items
+        → AreNamed input (map (λ other. other.now) given.now) lists.new.items) }
+{
+    for file in wanted {
+        add_named(rt, alloc, given, *file, lists)?;
+    }
+    Ok(())
+}
+
+fn read_one<'t, 'l>(
+    alloc: Global,
+    rules: Rules,
+    list: &'l ListFile<'t>,
+) -> Result<ReadList<'t, 'l>, Failure<'t>>
+    ensures { IfOk result (λ read. (input : Option (List ℕ)) → (given : List (List ℕ))
+        → IsNamed input given list.now → IsRead rules input given read) }
+{
+    let list = ListText {
+        file: list.file,
+        text: list.text.as_str(),
+    };
+    match read_list(alloc, rules, list) {
+        Ok(read) => Ok(read),
+        Err(fault) => Err(list_failure(alloc, rules, list, fault)),
+    }
+}
+
+// The lists with these texts.
+fn read_all<'t, 'l>(
+    alloc: Global,
+    rules: Rules,
+    lists: &'l [ListFile<'t>],
+) -> Result<Vec<ReadList<'t, 'l>>, Failure<'t>>
+    ensures { IfOk result (λ all. (input : Option (List ℕ)) → (given : List (List ℕ))
+        → AreNamed input given lists.now → AreRead rules input given all.items) }
+{
+    let mut all = Vec::new(alloc);
+    for list in lists {
+        let read = read_one(alloc, rules, list)?;
+        add_read(&mut all, read)?;
+    }
+    Ok(all)
+}
+
+// Notes by mosquitto's rules of whom it isn't known, and by our own where mosquitto decides otherwise by one of the lists.
+fn add_notes<'t>(
+    alloc: Global,
+    notes: &mut String,
+    lists: &[ReadList<'t, '_>],
+    options: Options,
+) -> Result<(), Failure<'t>>
+    ensures { OnOk result (options.rules ≡ Own
+        → All (λ read. IsQuiet options.noted read.list.text.now) lists.now
+        → notes.new ≡ notes.old) }
+{
+    add_who_limit(notes, options.rules)?;
+    for read in lists {
+        add_otherwise(alloc, notes, read.list, options)?;
+    }
+    Ok(())
+}
+
+// Why nothing is said of the lines of this file.
+fn failure_of<'t>(expected: &'t str, fault: TestFault<'t>) -> Failure<'t> {
+    match fault {
+        TestFault::Memory => Failure::Memory,
+        // Each that is wanted was read.
+        TestFault::Missing(file) => { Failure::Read(file, io::Error::from(ErrorKind::NotFound)) }
+        TestFault::Long { file, line } => Failure::Long { file, line },
+        TestFault::Mark { file, line } => Failure::Mark { file, line },
+        TestFault::GaveUp {
+            expectation,
+            file,
+            row: 0,
+            others,
+        } => Failure::TestFilterGaveUp {
+            file: expected,
+            line: expectation,
+            list: file,
+            others,
+        },
+        TestFault::GaveUp {
+            expectation,
+            file,
+            row,
+            others,
+        } => Failure::TestGaveUp {
+            file: expected,
+            line: expectation,
+            list: file,
+            row,
+            others,
+        },
+    }
+}
+
+// Whether each of the lines holds.
+fn outcome_of(verdicts: &[Verdict<'_, '_>]) -> Outcome
+    ensures { (rules : Rules) (lists : List ReadList) → All (IsVerdict rules lists) verdicts.now
+        → TellsTested rules lists (map (λ v. asked_view v.asked) verdicts.now) result }
+{
+    if all_hold(verdicts) {
+        return Outcome::Clear;
+    }
+    Outcome::Remark
+}
+
+// What is told of the lines, and what it comes to.
+fn judged<'t>(
+    alloc: Global,
+    expected: ListText<'t, 't>,
+    given: &[&'t str],
+    expectations: &[Numbered<'t>],
+    lists: &[ReadList<'t, '_>],
+    options: Options,
+) -> Result<(String, Outcome), Failure<'t>>
+    ensures { IfOk result (λ told. TellsTested options.rules lists.now
+        (questions (map (λ file. file.now) given.now) (numbered_views expectations.now)) told.1) }
+{
+    let rules = options.rules;
+    let verdicts = match judge_all(alloc, rules, given, expectations, lists, options.steps) {
+        Ok(verdicts) => verdicts,
+        Err(fault) => return Err(failure_of(expected.file, fault)),
+    };
+    let outcome = outcome_of(&verdicts);
+    let text = verdicts_text(alloc, rules, expected, lists, &verdicts, options.json)?;
+    Ok((text, outcome))
+}
+
+// The same of the texts of the lists that are given, and of those that the lines name.
+fn tested<'t, R: Files, I: Read>(
+    rt: &R,
+    alloc: Global,
+    expected: ListText<'t, 't>,
+    given: &[&'t str],
+    options: Options,
+    input: &mut I,
+    notes: &mut String,
+) -> Result<(String, Outcome), Failure<'t>>
+    requires { input_count (map (λ file. file.now) given.now) ≤ 1 }
+    ensures ok { IfOk result (λ told. (known : Option (List ℕ))
+        → (1 ≤ input_count (map (λ file. file.now) given.now) → known ≡ I.remaining input.old)
+        → IsTested options.rules options.noted known expected.entry.text.now
+        (map (λ file. file.now) given.now) told.1 (notes.new ≡ notes.old)) }
+    ensures kept { input_count (map (λ file. file.now) given.now) ≡ 0 → input.new ≡ input.old }
+{
+    let mut lists = given_texts(rt, alloc, given, input)?;
+    let expectations = read_expectations(alloc, expected.text)?;
+    let wanted = wanted_files(alloc, given, &expectations)?;
+    add_all_named(rt, alloc, given, &wanted, &mut lists)?;
+    let read = read_all(alloc, options.rules, &lists)?;
+    add_notes(alloc, notes, &read, options)?;
+    judged(alloc, expected, given, &expectations, &read, options)
+}
+
+// The same names, for a shorter life.
+fn shorter<'a: 't, 't>(alloc: Global, names: &[&'a str]) -> Result<Vec<&'t str>, AllocError>
+    ensures { IfOk result (λ all. map (λ name. name.now) all.items ≡ map (λ name. name.now) names.now) }
+{
+    let mut all = Vec::new(alloc);
+    for name in names {
+        all.push(*name)?;
+    }
+    Ok(all)
+}
+
+/// Shows which lines of a file of expectations don't hold of the lists in these files; or, where none is given, of those that
+/// it names.
+pub(crate) fn answer_test<'a, R: Files, I: Read, W: Write>(
+    rt: &R,
+    alloc: Global,
+    expected: &'a str,
+    given: &[&'a str],
+    options: Options,
+    input: &mut I,
+    out: &mut W,
+    notes: &mut String,
+) -> Result<Outcome, Failure<'a>>
+    requires { input_count (expected.now ∷ map (λ file. file.now) given.now) ≤ 1 }
+    ensures ok { IfOk result (λ outcome. (text : List ℕ)
+        × IsTextOf (I.remaining input.old) expected.entry.now text
+        × IsTested options.rules options.noted (I.remaining input.old) text
+        (map (λ file. file.now) given.entry.now) outcome (notes.new ≡ notes.old)) }
+    ensures unread { IfErr result (λ failure. failure_status failure ≡ 2 → out.new ≡ out.old) }
+    ensures kept { input_count (expected.entry.now ∷ map (λ file. file.now) given.entry.now) ≡ 0
+        → input.new ≡ input.old }
+{
+    let text = text_of(rt, alloc, expected, input)?;
+    let given = shorter(alloc, given)?;
+    let said = ListText {
+        file: expected,
+        text: text.as_str(),
+    };
+    match tested(rt, alloc, said, &given, options, input, notes) {
+        Ok((answer, outcome)) => print_outcome(out, Ok(answer), outcome),
+        Err(failure) => Err(Failure::of_named(alloc, failure)),
+    }
+}
