@@ -123,14 +123,14 @@ gain_asks q gain k g =
     )
 
 -- ---- the line that is told
-pub line_contained : (q : Question) (gain : Gain) → IsQuestion q → IsGain q gain
-    → Contains (line_views (rows_with q.way q.lists.now.old.now q.lists.now.new.now))
-    gain.grant.now.line
-line_contained q gain k g =
+pub line_contained : (q : Question) (before : List Marked) (row : Row) → IsQuestion q
+    → IsSplit q.to.now.rows.items before row
+    → Contains (line_views (rows_with q.way q.lists.now.old.now q.lists.now.new.now)) row.line
+line_contained q before row k s =
     let rows = rows_with q.way q.lists.now.old.now q.lists.now.new.now in
     let has : Row → Type 0 = (λ (r : Row). Contains (line_views rows) r.line) in
-    All-behind has (rows_of gain.before.now) gain.grant.now g.grant.after
-    (subst (All has) (sym k.to.are ∙ g.grant.is)
+    All-behind has (rows_of before) row s.after
+    (subst (All has) (sym k.to.are ∙ s.is)
     (all_judges has (rules_in q) q.direction q.clients rows
     (All-unmap (Contains (line_views rows)) (λ (r : Row). r.line) rows
     (All-contains_itself (line_views rows)))))

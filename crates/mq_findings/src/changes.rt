@@ -139,8 +139,8 @@ fn add_all(alloc: Global, report: &mut Report, lists: &Lists) -> Result<(), Comp
 /// Where two lists differ: for the clients without a user name, for those of each user name that a list names, and for
 /// those of all others, what they gain and lose in each direction. Of what the same lines decide, one difference is told.
 ///
-/// A step is a row that is looked at for one question. Where the steps don't suffice the comparison is given up, so that
-/// an answer is always the whole one. So many as `enough_steps` says always suffice.
+/// A step is a row that is looked at for one question, or as much work as that takes. Where the steps don't suffice the
+/// comparison is given up, so that an answer is always the whole one. So many as `enough_steps` says always suffice.
 pub fn compare<'a>(
     alloc: Global,
     rules: Rules,

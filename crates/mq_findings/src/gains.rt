@@ -11,7 +11,7 @@ ghost use Rattle.mq_findings.specs.Questions.{AreTold, AreToldBy, AreToldOf, IsD
 ghost use Rattle.mq_findings.specs.Questions.{IsPlaced, IsQuestion, IsStop, IsToldBy, NeverMeet};
 ghost use Rattle.mq_findings.specs.Questions.{TellsChanges, class_of, gain_cover, gain_must};
 ghost use Rattle.mq_findings.specs.Questions.{asked_in, gain_reasons, granted_cover, must_of};
-ghost use Rattle.mq_findings.specs.Questions.{side_with};
+ghost use Rattle.mq_findings.specs.Questions.{IsSplit, side_with};
 ghost use Rattle.mq_findings.specs.Ranks.{rank};
 ghost use Rattle.mq_findings.specs.Reports.{Grows, IsSound};
 ghost use Rattle.std.specs.Prelude.{None};
@@ -27,9 +27,15 @@ use crate::ranks::rank;
 use crate::reason::Reason;
 use crate::report::Report;
 use crate::way::Way;
+use crate::work::work_of;
 use mq_acl::{Direction, Row, Rules, is_deny};
 use mq_witness::{Clients, Witness};
 use std::alloc::{AllocError, Global};
+
+// So many rows are gathered for clients of one class, or so many pairs of rows passed over, in the time of one look at a row.
+const GATHERED: u64 = 4;
+
+const PAIRS: u64 = 8;
 
 /// What is asked: what these clients may do by one list, and may not by the other.
 #[derive(Clone, Copy, Drop)]
@@ -145,14 +151,28 @@ fn others_of(gain: &Gain) -> u64 {
         .saturating_add(gain.before.len() as u64)
 }
 
-// The steps that a question takes don't suffice.
-fn give_up(question: &Question, gain: &Gain) -> ComparisonFault
+// The steps don't suffice for what is asked of this row of the second list, which has to be seen against so many others.
+fn give_up(question: &Question, before: &[Marked], row: &Row, others: u64) -> ComparisonFault
     requires question { IsQuestion question.now }
-    requires gain { IsGain question.now gain.now }
+    requires split { IsSplit question.now.to.now.rows.items before.now row.now }
     requires limited { question.now.lists.now.limited ≡ true }
     ensures { IsStop question.now.lists.now result }
 {
-    ComparisonFault::GaveUp(side_with(question.way), gain.grant.line, others_of(gain))
+    ComparisonFault::GaveUp(side_with(question.way), row.line, others)
+}
+
+// The steps that it takes to know what these rows concern, and those don't.
+fn work_of_question(question: &Question, must: &[&Row], cover: &[&Row]) -> u64 {
+    let lists = question.lists;
+    work_of(lists.limited, question.clients, lists.users, must, cover)
+}
+
+// Those that it takes to know whether the rows meet: of one row that is taken for granted.
+fn work_of_meeting(question: &Question, must: &[&Row]) -> u64 {
+    if must.len() < 2 {
+        return 0;
+    }
+    work_of_question(question, must, &must[..0])
 }
 
 // Whether the rows that are to concern it do so anywhere. Of one row that is taken for granted.
@@ -229,25 +249,26 @@ fn add_gain<'a>(
     ensures fault { IfErr result (IsStop question.entry.now.lists.now) }
 {
     let must = must_of(alloc, gain)?;
-    let few = must.len() as u64;
+    let few = work_of_meeting(question, &must);
     if !report.spend(question.lists.limited, few) {
-        return Err(give_up(question, gain));
+        return Err(give_up(question, gain.before, gain.grant, others_of(gain)));
     }
     let met = can_meet(alloc, question, gain, &must)?;
     if !met {
         return Ok(());
     }
     let cover = cover_of(alloc, gain)?;
-    let steps = cover.len() as u64;
+    let steps = work_of_question(question, &must, &cover);
     if !report.spend(question.lists.limited, steps) {
-        return Err(give_up(question, gain));
+        return Err(give_up(question, gain.before, gain.grant, others_of(gain)));
     }
     add_kind(alloc, report, question, gain, false, &must, &cover)?;
     add_kind(alloc, report, question, gain, true, &must, &cover)?;
     Ok(())
 }
 
-// Adds what the row grants where no row of the first list decided.
+// Adds what the row grants where no row of the first list decided. The steps are spent, too, for the rows that may have
+// denied it: each is looked at, though of most nothing is asked.
 fn add_granted<'l, 'a>(
     alloc: Global,
     report: &mut Report,
@@ -265,6 +286,10 @@ fn add_granted<'l, 'a>(
         (granted_cover question.entry.now before.entry.now) report.new.differences.items) }
     ensures fault { IfErr result (IsStop question.entry.now.lists.now) }
 {
+    let denies = question.from.denies.len() as u64;
+    if !report.spend(question.lists.limited, denies / PAIRS) {
+        return Err(give_up(question, before, grant.row, denies));
+    }
     if grant.kept {
         return Ok(());
     }
@@ -352,6 +377,23 @@ fn add_by_grant<'l, 'a>(
     Ok(())
 }
 
+// Spends the steps that it took to gather the rows of the second list.
+fn begin(report: &mut Report, question: &Question) -> Result<(), ComparisonFault>
+    requires { IsQuestion question.now }
+    ensures same { report.new.differences ≡ report.old.differences }
+    ensures fault { IfErr result (IsStop question.entry.now.lists.now) }
+{
+    let rows = question.to.rows.as_slice();
+    let Some(first) = rows.get(0) else {
+        return Ok(());
+    };
+    let count = rows.len() as u64;
+    if !report.spend(question.lists.limited, count / GATHERED) {
+        return Err(give_up(question, &rows[..0], first.row, count));
+    }
+    Ok(())
+}
+
 /// Adds what is gained.
 pub(crate) fn add_gains(
     alloc: Global,
@@ -365,6 +407,7 @@ pub(crate) fn add_gains(
     ensures told { OnOk result (TellsChanges question.entry.now report.new.differences.items) }
     ensures fault { IfErr result (IsStop question.entry.now.lists.now) }
 {
+    begin(report, question)?;
     let rows = question.to.rows.as_slice();
     for (place, grant) in rows.iter().enumerate() {
         if is_deny(grant.row.access) {

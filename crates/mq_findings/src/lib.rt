@@ -19,6 +19,7 @@ mod report;
 mod steps;
 mod verdict;
 mod way;
+mod work;
 
 pub use by_owner::ByOwner;
 pub use changes::compare;
@@ -32,3 +33,4 @@ pub use reason::Reason;
 pub use steps::{Steps, enough_steps};
 pub use verdict::{Verdict, why};
 pub use way::Way;
+pub use work::work_of;

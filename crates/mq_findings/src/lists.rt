@@ -21,6 +21,8 @@ pub(crate) struct Lists<'a> {
     pub asked: Asked<'a>,
     pub old_rows: ByOwner<'a>,
     pub new_rows: ByOwner<'a>,
+    /// How many user names they name.
+    pub users: usize,
     /// Whether fewer steps are given than are enough.
     pub limited: bool,
 }
@@ -35,6 +37,7 @@ impl Drop for Lists<'_> {
             asked: _,
             old_rows: _,
             new_rows: _,
+            users: _,
             limited: _,
         } = self;
     }
@@ -81,6 +84,7 @@ impl<'a> Lists<'a> {
             Ok(asked) => asked,
             Err(fault) => return Err(fault_of(fault)),
         };
+        let users = asked.users(alloc)?.len();
         let old_rows = ByOwner::of(alloc, mark(alloc, old, new)?)?;
         let new_rows = ByOwner::of(alloc, mark(alloc, new, old)?)?;
         Ok(Lists {
@@ -90,6 +94,7 @@ impl<'a> Lists<'a> {
             asked,
             old_rows,
             new_rows,
+            users,
             limited: steps < enough_steps(old.len().saturating_add(new.len())),
         })
     }

@@ -5,12 +5,12 @@ ghost use Rattle.mq_findings.specs.Steps.{enough_steps};
 pub fn enough_steps(rows: usize) -> u64
     ensures { result ≤ enough_steps rows }
 {
-    let near = (rows as u64).saturating_add(2);
+    let near = (rows as u64).saturating_add(2).saturating_mul(32);
     let square = near.saturating_mul(near);
     square.saturating_mul(square)
 }
 
-/// The steps that are left. One is a row that is looked at for one question.
+/// The steps that are left. One is a row that is looked at for one question, or as much work as that takes.
 #[derive(Debug, Drop)]
 pub struct Steps {
     left: u64,

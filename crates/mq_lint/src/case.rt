@@ -17,6 +17,9 @@ use mq_acl::{Direction, Row, Rules, is_deny};
 use mq_findings::{Marked, Steps, is_judge, rank};
 use std::alloc::{AllocError, Global};
 
+// So many rows are gathered in the time of one look at a row.
+const GATHERED: u64 = 4;
+
 // Ranks are below it.
 const RANKS: u8 = 4;
 
@@ -82,6 +85,16 @@ fn is_at(rules: Rules, direction: Direction, place: u8, row: &Row) -> bool
 
 impl<'q, 'a> Case<'q, 'a> {
     ghost use Rattle.mq_lint.specs.NeedlessFault.{IsStop};
+
+    /// How many other rows there are.
+    pub(crate) fn count(&self) -> u64 {
+        self.others.len() as u64
+    }
+
+    /// The steps that it took to gather them.
+    pub(crate) fn work(&self) -> u64 {
+        self.count() / GATHERED
+    }
 
     // Whether the row and this other one concern a topic that none of the cover does.
     fn meets(

@@ -126,6 +126,7 @@ impl<'a> Lint<'a> {
             asked: &self.asked,
             clients,
             row,
+            users: self.classes.len(),
             limited: self.limited,
         }
     }

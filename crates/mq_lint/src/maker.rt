@@ -19,6 +19,9 @@ use mq_findings::{Steps, rank};
 use mq_witness::{Clients, may_overlap};
 use std::alloc::{AllocError, Global};
 
+// So many classes of clients are listed in the time of one look at a row.
+const CLASSES: u64 = 32;
+
 // The access of a row that grants what a row with this one denies, or grants.
 fn granted_access(access: Access) -> Access
     ensures { access_view result ≡ granted_access (access_view access) }
@@ -83,6 +86,9 @@ fn makes_needless(
     }
     let cover = cover_of(alloc, row, other)?;
     let classes = lint.classes(alloc, row)?;
+    if !steps.spend(lint.limited, classes.len() as u64 / CLASSES) {
+        return Err(NeedlessFault::GaveUp(row.line, 1));
+    }
     for clients in &classes {
         let question = lint.question(*clients, row);
         if question.stands_out(alloc, steps, &cover)? {

@@ -38,6 +38,9 @@ fn is_needed(
     let classes = lint.classes(alloc, row)?;
     for clients in &classes {
         let case = lint.case(alloc, *clients, row)?;
+        if !steps.spend(lint.limited, case.work()) {
+            return Err(NeedlessFault::GaveUp(row.line, case.count()));
+        }
         if case.is_needed(alloc, steps)? {
             return Ok(true);
         }
@@ -63,6 +66,9 @@ fn meets_grant(
     let classes = lint.classes(alloc, row)?;
     for clients in &classes {
         let case = lint.case(alloc, *clients, row)?;
+        if !steps.spend(lint.limited, case.work()) {
+            return Err(NeedlessFault::GaveUp(row.line, case.count()));
+        }
         if case.meets_grant(alloc, steps)? {
             return Ok(true);
         }
@@ -190,8 +196,8 @@ fn remarks_of_kinds(
 /// By these rules: the lines without which, each by itself, the list allows the same to all, and those that repeat another or deny what
 /// no line grants: in the order of the rows.
 ///
-/// A step is a row that is looked at for one question. Where the steps don't suffice nothing is told, so that an answer
-/// is always the whole one. So many as `enough_steps` says always suffice.
+/// A step is a row that is looked at for one question, or as much work as that takes. Where the steps don't suffice nothing
+/// is told, so that an answer is always the whole one. So many as `enough_steps` says always suffice.
 pub fn needless(
     alloc: Global,
     rules: Rules,

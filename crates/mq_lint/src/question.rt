@@ -7,7 +7,7 @@ ghost use Rattle.mq_lint.specs.Cases.{CanAsk, Finds, FindsNone};
 
 use crate::fault::NeedlessFault;
 use mq_acl::{Row, Rules};
-use mq_findings::Steps;
+use mq_findings::{Steps, work_of};
 use mq_witness::{Asked, Clients};
 use std::alloc::{AllocError, Global};
 
@@ -18,6 +18,8 @@ pub(crate) struct Question<'q, 'a> {
     pub asked: &'q Asked<'a>,
     pub clients: Clients<'q>,
     pub row: &'q Row,
+    /// How many user names the list names.
+    pub users: usize,
     /// Whether the steps are.
     pub limited: bool,
     ghost can_ask: { CanAsk rules asked.now clients (row_view row.now) },
@@ -68,7 +70,8 @@ impl<'q, 'a> Question<'q, 'a> {
         ensures fault { IfErr result (IsStop self.now.row.now.line self.now.limited) }
     {
         let others = (must.len() as u64).saturating_add(cover.len() as u64);
-        if !steps.spend(self.limited, others) {
+        let work = work_of(self.limited, self.clients, self.users, must, cover);
+        if !steps.spend(self.limited, work) {
             return Err(NeedlessFault::GaveUp(self.row.line, others.saturating_sub(1)));
         }
         if self.meets_kind(alloc, false, must, cover)? {

@@ -22,6 +22,9 @@ use mq_acl::{Direction, Row};
 use mq_witness::{Clients, has_pattern};
 use std::alloc::Global;
 
+// So many rows are gathered for clients of one class in the time of one look at a row.
+const GATHERED: u64 = 4;
+
 // Adds where the rules decide otherwise about topics that begin with `$`, or about the others.
 fn add_kind(
     alloc: Global,
@@ -44,12 +47,22 @@ fn add_kind(
         clients,
         direction,
         dollar,
+        users: list.users,
         limited: list.limited,
     };
     let parts = Parts::of(alloc, list, clients, direction, dollar)?;
+    if !report
+        .steps
+        .spend(list.limited, list.count_for(clients) / GATHERED)
+    {
+        return Err(OtherwiseFault::GaveUp);
+    }
     let Some(told) = question.answer(alloc, &mut report.steps, &parts)? else {
         return Ok(());
     };
+    if !report.steps.spend(list.limited, list.rows.len() as u64) {
+        return Err(OtherwiseFault::GaveUp);
+    }
     report.add(told)?;
     Ok(())
 }
@@ -128,8 +141,8 @@ fn add_all(alloc: Global, report: &mut Report, list: &AskedList) -> Result<(), O
 /// and one of the others, where there is one. Where the list has `pattern` lines it is about client ids and user names
 /// without `/`, `+` and `#`.
 ///
-/// A step is a row that is looked at for one question. Where the steps don't suffice it is given up, so that an answer is
-/// always the whole one. So many as `enough_steps` says always suffice.
+/// A step is a row that is looked at for one question, or as much work as that takes. Where the steps don't suffice it is
+/// given up, so that an answer is always the whole one. So many as `enough_steps` says always suffice.
 pub fn decided_otherwise(
     alloc: Global,
     rows: &[Row],

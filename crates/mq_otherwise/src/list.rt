@@ -7,7 +7,7 @@ ghost use Rattle.mq_otherwise.specs.Faults.{IsOtherwiseFault};
 use crate::fault::OtherwiseFault;
 use mq_acl::{Row, Rules};
 use mq_findings::{ByOwner, enough_steps};
-use mq_witness::{Asked, ListFault};
+use mq_witness::{Asked, Clients, ListFault};
 use std::alloc::{AllocError, Global};
 
 /// A list that can be asked by mosquitto's rules.
@@ -15,6 +15,8 @@ pub(crate) struct AskedList<'a> {
     pub rows: &'a [Row],
     pub asked: Asked<'a>,
     pub by_owner: ByOwner<'a>,
+    /// How many user names it names.
+    pub users: usize,
     /// Whether the steps are.
     pub limited: bool,
     ghost is_list: { IsList rows.now asked by_owner },
@@ -27,6 +29,7 @@ impl Drop for AskedList<'_> {
             rows: _,
             asked: _,
             by_owner: _,
+            users: _,
             limited: _,
         } = self;
     }
@@ -57,12 +60,20 @@ impl<'a> AskedList<'a> {
             Err(ListFault::Line(_, line)) => return Err(OtherwiseFault::Line(line)),
             Err(ListFault::Mark(_, line)) => return Err(OtherwiseFault::Mark(line)),
         };
+        let users = asked.users(alloc)?.len();
         let by_owner = ByOwner::of_list(alloc, rows)?;
         Ok(AskedList {
             rows,
             asked,
             by_owner,
+            users,
             limited: steps < enough_steps(rows.len()),
         })
+    }
+
+    /// How many rows it has for these clients.
+    pub(crate) fn count_for(&self, clients: Clients) -> u64 {
+        let own = self.by_owner.own(clients).len() as u64;
+        own.saturating_add(self.by_owner.everyones().len() as u64)
     }
 }

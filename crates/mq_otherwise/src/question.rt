@@ -16,7 +16,7 @@ use crate::fault::OtherwiseFault;
 use crate::otherwise::Otherwise;
 use crate::parts::Parts;
 use mq_acl::{Direction, Row, Rules};
-use mq_findings::{Steps, class_of, why};
+use mq_findings::{Steps, class_of, why, work_of};
 use mq_witness::{Asked, Clients, Witness};
 use std::alloc::{AllocError, Global};
 
@@ -28,6 +28,8 @@ pub(crate) struct Question<'q, 'a> {
     pub clients: Clients<'q>,
     pub direction: Direction,
     pub dollar: bool,
+    /// How many user names the list names.
+    pub users: usize,
     /// Whether the steps are.
     pub limited: bool,
     ghost is_question: { IsQuestion rows.now asked.now clients },
@@ -147,6 +149,11 @@ impl Question<'_, '_> {
         Ok(true)
     }
 
+    // The steps that it takes to know what these rows concern, and those don't.
+    fn work(&self, must: &[&Row], cover: &[&Row]) -> u64 {
+        work_of(self.limited, self.clients, self.users, must, cover)
+    }
+
     // The same as `find`, where the steps suffice.
     fn find_by(
         &self,
@@ -165,13 +172,13 @@ impl Question<'_, '_> {
         ensures real { IfOk result (λ found. IfSome found (IsReal self.now.rows.now)) }
         ensures fault { IfErr result (IsStop self.now.limited) }
     {
-        if !steps.spend(self.limited, 1) {
+        if !steps.spend(self.limited, self.work(must, &must[..0])) {
             return Err(OtherwiseFault::GaveUp);
         }
         if !self.meet(alloc, must)? {
             return Ok(None);
         }
-        if !steps.spend(self.limited, cover.len() as u64) {
+        if !steps.spend(self.limited, self.work(must, cover)) {
             return Err(OtherwiseFault::GaveUp);
         }
         let found = self.find(alloc, must, cover)?;

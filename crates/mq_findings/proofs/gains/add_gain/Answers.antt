@@ -5,4 +5,4 @@ use Rattle.mq_findings.proofs.gains.add_gain.Goals as goal
 pub returns-then-not-met-clause-told : goal.returns-then-not-met-clause-told
 returns-then-not-met-clause-told c =
     never_told c.args.question.now (gain_must c.args.gain.now) (gain_cover c.args.gain.now)
-    c.spend.new.self.differences.items (c.in_ok-met.ensures c.if-not-met.true)
+    _ (c.in_ok-met.ensures c.if-not-met.true)

@@ -5,7 +5,7 @@ use Rattle.mq_findings.specs.Questions.{AreToldBy, IsSplit, rows_without}
 use Rattle.mq_findings.specs.declared.marks.Marked.{Marked}
 use Rattle.mq_findings.proofs.EveryLemmas.{tells_all}
 use Rattle.mq_findings.proofs.MarkLemmas.{split_at}
-use Rattle.mq_findings.proofs.ReportLemmas.{are_done_one}
+use Rattle.mq_findings.proofs.ReportLemmas.{AreDoneTo, are_done_none, are_done_one}
 use Rattle.mq_findings.proofs.gains.add_gains.Goals as goal
 
 pub add_by_grant-requires-clause-placed : goal.add_by_grant-requires-clause-placed
@@ -25,6 +25,12 @@ add_by_grant-requires-clause-placed c =
           c.args.question.now.lists.now.old.now c.args.question.now.lists.now.new.now))) (sym is)
           (c.requires.to.kept c.loop-place.place m low);
     }
+
+pub loop-place-init : goal.loop-place-init
+loop-place-init c =
+    let told = c.args.report.now.differences.items in
+    subst (AreDoneTo c.args.question.now 0 told) (λ i. (sym c.begin.ensures.same i).items)
+    (are_done_none c.args.question.now told)
 
 pub loop-place-preserved : goal.loop-place-preserved
 loop-place-preserved c =

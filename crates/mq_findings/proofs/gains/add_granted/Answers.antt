@@ -3,5 +3,5 @@ use Rattle.mq_findings.proofs.gains.add_granted.Goals as goal
 
 pub returns-then-grant-clause-told : goal.returns-then-grant-clause-told
 returns-then-grant-clause-told c =
-    kept_granted c.args.question.now c.args.report.now.differences.items c.args.before.now
-    c.args.grant.now c.requires.question c.requires.placed c.if-grant.true
+    kept_granted c.args.question.now _ c.args.before.now c.args.grant.now c.requires.question
+    c.requires.placed c.if-grant.true

@@ -8,8 +8,9 @@ pub returns : goal.returns
 returns c =
     let old = c.args.question.now.lists.now.old.now in
     let new = c.args.question.now.lists.now.new.now in (
-      subst (λ rows. Contains (line_views rows) c.args.gain.now.grant.now.line)
+      subst (λ rows. Contains (line_views rows) c.args.row.now.line)
           (side_rows c.args.question.now.way old new ∙ ap (rows_of old new) (sym c.side_with.ensures))
-          (line_contained c.args.question.now c.args.gain.now c.requires.question c.requires.gain),
+          (line_contained c.args.question.now c.args.before.now c.args.row.now c.requires.question
+          c.requires.split),
       c.requires.limited,
     )
