@@ -43,7 +43,7 @@ of_usage words kinds (Usage text) h = inl h
 of_usage words kinds Memory h = h
 
 -- the usual number of steps where none is given
-pub steps-unless : (o : Option ℕ) → unwrap_or o 20000000 ≡ steps_or_usual o
+pub steps-unless : (o : Option ℕ) → unwrap_or o 200000000 ≡ steps_or_usual o
 unfolding usual_steps
 steps-unless None = refl
 steps-unless (Some n) = refl

@@ -277,7 +277,7 @@ values_of (Some met) = met.1
 
 -- how many steps may be taken where nothing is said of them
 unfoldable pub usual_steps : ℕ
-usual_steps = 20000000
+usual_steps = 200000000
 
 abbrev pub steps_or_usual : Option ℕ → ℕ
 steps_or_usual (Some steps) = steps

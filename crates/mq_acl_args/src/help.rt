@@ -45,7 +45,7 @@ pub(crate) const FILTER_HELP: &str = "The topic filter of the subscription; $sha
 
 pub(crate) const USER_HELP: &str = "The user name of the client (none)";
 
-pub(crate) const STEPS_HELP: &str = "Give up after so many steps (20,000,000: some ten seconds)";
+pub(crate) const STEPS_HELP: &str = "Give up after so many steps (200,000,000: some ten seconds)";
 
 pub(crate) const RULES_HELP: &str =
     "By whose rules lists are read, and decide: own, or mosquitto for those of mosquitto 2.0 (own)";
@@ -65,7 +65,8 @@ With --only gained those alone are shown that the new list allows and the old
 one doesn't, with --only lost the others, and the status is of these.
 
 Long lists that overlap in many ways can take long. A step is a line that is
-looked at for one question. When the steps are spent nothing is answered.
+looked at for one question, or as much work as that takes. When the steps are
+spent nothing is answered.
 
 With --json each difference is an object with
   access    read or write
@@ -97,8 +98,8 @@ its line. Where one of them can't be read, nothing is written. A needless line
 is one without which the list allows the same. A line that denies nothing that
 a line grants may be there to guard: alone, such lines don't make the status 1.
 
-A step is a line that is looked at for one question. When the steps are spent
-nothing is answered. Each file has as many.
+A step is a line that is looked at for one question, or as much work as that
+takes. When the steps are spent nothing is answered. Each file has as many.
 
 With --json each remark is an object with
   file, line, text  the line
@@ -166,8 +167,8 @@ deny lines take away. Of those that may nothing nothing is told.
 With --only those users are left out, and the status is 1 where anybody else
 may.
 
-A step is a line that is looked at for one question. When the steps are spent
-nothing is answered.
+A step is a line that is looked at for one question, or as much work as that
+takes. When the steps are spent nothing is answered.
 
 With --json each is an object with
   access   read or write
@@ -208,8 +209,9 @@ Where LISTs are given, the whole is tested of each, and acl lines are passed
 over. Files that EXPECTED names are found from the folder that the program runs
 in, and - is none of them.
 
-A step is a line that is looked at for one question. When the steps are spent
-nothing is answered. Each line of EXPECTED has as many.
+A step is a line that is looked at for one question, or as much work as that
+takes. When the steps are spent nothing is answered. Each line of EXPECTED has
+as many.
 
 With --json each line of EXPECTED that says something is an object with
   file, line, text  the line

@@ -104,7 +104,7 @@ pub struct Request<'a> {
 }
 
 /// How many steps may be taken where nothing is said of them: some ten seconds.
-const USUAL_STEPS: u32 = 20_000_000;
+const USUAL_STEPS: u32 = 200_000_000;
 
 // The value with this id.
 fn value<'a>(matches: &ArgMatches<'a>, id: &str) -> Option<&'a str>
