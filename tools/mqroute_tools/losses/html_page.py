@@ -1,16 +1,15 @@
 """A comparison as one page of HTML, which loads nothing and runs nothing."""
 from collections.abc import Iterator
 
-from ..common.files import open_input, whole
+from ..common.files import whole
+from ..common.page_frame import ENDING, beginning
 from .acl_verdicts import Decided
 from .bar_chart import picture
-from .findings import CauseSum, Findings, Place, Subject, Totals
+from .findings import CauseSum, Findings, Subject, Totals
 from .html_escape import escaped, marked, visible
 from .page_style import STYLE
 from .report_rows import causes_of
-
-TEXT = 300  # of a line of the script so many characters are shown
-POLICY = "default-src 'none'; style-src 'unsafe-inline'; base-uri 'none'; form-action 'none'"
+from .script_lines import lines_of, script_lines
 
 
 def write(name: str, found: Findings, script: str, before: str, after: str) -> None:
@@ -22,24 +21,10 @@ def write(name: str, found: Findings, script: str, before: str, after: str) -> N
         out.writelines(part.encode("utf-8") for part in parts(found, texts, script, before, after))
 
 
-def lines_of(script: str, wanted: set[int]) -> dict[int, str]:
-    """The texts of some lines of the script. None if it was a pipe, which can't be read again."""
-    found = {}
-    with open_input(script) as stream:
-        for number, line in enumerate(stream, 1):
-            if number in wanted:
-                text = line.rstrip(b"\r\n").decode("utf-8", "backslashreplace")
-                found[number] = text if len(text) <= TEXT else text[:TEXT] + " .."
-    return found
-
-
 def parts(found: Findings, texts: dict[int, str], script: str, before: str,
           after: str) -> Iterator[str]:
-    yield ("<!doctype html>\n<html lang='en'><head><meta charset='utf-8'>"
-           f"<meta http-equiv='Content-Security-Policy' content=\"{POLICY}\">"
-           "<meta name='viewport' content='width=device-width, initial-scale=1'>"
-           f"<title>Who loses what</title><style>\n{STYLE}</style></head>\n"
-           "<body><main>\n<h1>Who loses what</h1>\n"
+    yield (beginning("Who loses what", STYLE)
+           + "<h1>Who loses what</h1>\n"
            f"<p class='files'>Script {file(script)}, before {file(before)}, "
            f"after {file(after)}</p>\n")
     yield totals(found.totals)
@@ -54,7 +39,7 @@ def parts(found: Findings, texts: dict[int, str], script: str, before: str,
         yield from copies(found, texts)
     if found.refused:
         yield from refused(found, texts)
-    yield "</main></body></html>\n"
+    yield ENDING
 
 
 def file(name: str) -> str:
@@ -143,24 +128,3 @@ def decided(lines: Decided | None) -> str:
     before, after = (escaped(one.in_words()) for one in (lines.before, lines.after))
     return (f"<div class='decided'><div>before: <code><bdi>{before}</bdi></code></div>"
             f"<div>after: <code><bdi>{after}</bdi></code></div></div>")
-
-
-def script_lines(lines: list[Place], count: int, of: str, texts: dict[int, str]) -> str:
-    items = []
-    for place in lines:
-        names = [name for name in (place.client, place.topic) if name]
-        whose = " · ".join(f"<bdi>{visible(name)}</bdi>" for name in names)
-        item = f"<div>{whose}</div><div>line {numbered(place.line, texts)}</div>"
-        if place.publish:
-            item += f"<div>published at line {numbered(place.publish, texts)}</div>"
-        items.append(f"<li>{item}</li>")
-    found = f"<ol>{''.join(items)}</ol>"
-    if count > len(lines):
-        found += f"<p class='note'>The first {len(lines)} of {count} {of}.</p>"
-    return found
-
-
-def numbered(number: int, texts: dict[int, str]) -> str:
-    if number not in texts:
-        return f"<b>{number}</b>"
-    return f"<b>{number}</b> <code><bdi>{escaped(texts[number])}</bdi></code>"
