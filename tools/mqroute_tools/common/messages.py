@@ -20,10 +20,11 @@ def one_of(noun: str) -> str:
     return SINGULARS.get(noun, noun.removesuffix("s"))
 
 
-def counted(number: int, things: str) -> str:
-    """`1 line read`, `2 lines read`: the first word of `things` is a plural."""
+def counted(number: int, things: str, form: str = "") -> str:
+    """`1 line read`, `2 lines read`: the first word of `things` is a plural. With the form `,` the
+    number has thousands separators."""
     noun, blank, rest = things.partition(" ")
-    return f"{number} {one_of(noun) if number == 1 else noun}{blank}{rest}"
+    return f"{number:{form}} {one_of(noun) if number == 1 else noun}{blank}{rest}"
 
 
 def in_words(fault: Exception) -> str:

@@ -1,7 +1,11 @@
-"""Where mqroute's programs are."""
+"""Where mqroute's programs are, and what they write."""
 import os
 import shutil
+import subprocess
+from collections.abc import Callable, Container
 from pathlib import Path
+
+from .exit_status import Fault
 
 HERE = Path(__file__).resolve()
 # in a clone, and where it is installed: beside lib/
@@ -16,3 +20,18 @@ def find_program(variable: str, name: str) -> str:
         return named
     beside = (str(folder / name) for folder in (BUILT, INSTALLED))
     return next((path for path in beside if os.access(path, os.X_OK)), shutil.which(name) or name)
+
+
+def output_of(words: list[str], named: Callable[[str], str] = str,
+              statuses: Container[int] = (0, 1),
+              out: int = subprocess.PIPE) -> subprocess.CompletedProcess[bytes]:
+    """Runs a program to its end. Raises Fault where it can't be run or ends with another status;
+    `named` puts the names of files into what it says then."""
+    try:
+        done = subprocess.run(words, stdout=out, stderr=subprocess.PIPE)
+    except OSError as fault:
+        raise Fault(f"cannot run {words[0]}: {fault.strerror}") from fault
+    if done.returncode not in statuses:
+        said = named(done.stderr.decode("utf-8", "replace").strip())
+        raise Fault(said or f"{words[0]} ended with status {done.returncode}")
+    return done

@@ -1,6 +1,6 @@
 """The log files that a tool reads, one after another, some of them twice."""
 import tempfile
-from collections.abc import Iterator
+from collections.abc import Iterator, Mapping
 from typing import IO, BinaryIO
 
 from ..common.exit_status import Fault
@@ -15,15 +15,17 @@ PIECE = 1 << 20
 class Logs:
     """Log files, and `-` for standard input, in the order of their times.
 
-    What can't be read twice is copied where it is to be.
+    What can't be read twice is copied where it is to be; `copied` has the copies that are there.
     """
 
-    def __init__(self, names: list[str], twice: bool = True, form: str | None = None) -> None:
+    def __init__(self, names: list[str], twice: bool = True, form: str | None = None,
+                 copied: Mapping[str, str] = {}) -> None:
         self.copies: list[IO[bytes]] = []
         self.starts: list[tuple[int, str]] = []  # how many lines were read before each file
         self.head, self.headed = b"", ""  # how the first file begins that isn't empty, and its name
-        self.files = [LogFile(self.copy(name) if twice and not plain_file(name) else name, name)
-                      for name in names or [STDIN]]
+        paths = [copied.get(name, name) for name in names or [STDIN]]
+        self.files = [LogFile(self.copy(path) if twice and not plain_file(path) else path, name)
+                      for path, name in zip(paths, names or [STDIN])]
         if len(self.files) > 1 and all(plain_file(file.path) for file in self.files):
             self.files = in_order(self.files, form)
 

@@ -11,6 +11,7 @@ or a file.
 import argparse
 import json
 import sys
+from typing import BinaryIO
 
 from ..common.files import STDIN, keep_apart, refuse_stdin_twice, whole
 from ..common.messages import counted, tell
@@ -21,6 +22,14 @@ from .options import add_log_options
 from .script_writer import Writer, writer
 
 text_of = json.JSONEncoder(ensure_ascii=False, separators=(",", ":")).encode
+
+
+def write_script(found: Writer, logs: Logs, out: BinaryIO) -> int:
+    """Writes the commands of the logs, and gives how many."""
+    written = 0
+    for written, (_, command) in enumerate(placed_commands(found, logs.streams(found)), 1):
+        out.write(text_of(command).encode("utf-8") + b"\n")
+    return written
 
 
 def sum_up(found: Writer, logs: Logs, written: int) -> None:
@@ -51,10 +60,7 @@ def run(options: argparse.Namespace) -> int:
     keep_apart(files, {"--state": options.state})
     logs = Logs(options.log, not options.no_inference, options.time_format)
     found = writer(Writer, options, logs, follow=bool(options.state))
-    written = 0
-    for _, command in placed_commands(found, logs.streams(found)):
-        sys.stdout.buffer.write(text_of(command).encode("utf-8") + b"\n")
-        written += 1
+    written = write_script(found, logs, sys.stdout.buffer)
     sys.stdout.buffer.flush()
     if found.state:
         with whole(options.state) as file:

@@ -4,6 +4,9 @@ import argparse
 from ..common.option_values import whole_number
 from ..script.sessions import FOREVER
 
+# as they stand in the options that argparse gives
+NAMES = ("time_format", "session_expiry", "no_inference", "begin")
+
 
 def add_log_options(parser: argparse.ArgumentParser) -> None:
     parser.add_argument("--time-format", metavar="FORMAT",

@@ -26,8 +26,8 @@ class Decided:
 class Lists:
     """The list before and the list after, and where they contradict the outputs."""
 
-    def __init__(self, before: str, after: str) -> None:
-        self.lists = AccessList(before), AccessList(after)
+    def __init__(self, before: AccessList, after: AccessList) -> None:
+        self.lists = before, after
         self.contradiction = ""  # the first
         self.fit_swapped = True  # as far as was asked
 

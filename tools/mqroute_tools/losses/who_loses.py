@@ -10,6 +10,7 @@ import sys
 from ..common.exit_status import UsageFault
 from ..common.files import STDIN, keep_apart, refuse_stdin_twice
 from ..common.option_values import whole_number
+from ..script.access_list import AccessList
 from . import html_page
 from .acl_verdicts import Lists
 from .comparison import Losses, compare, findings
@@ -51,7 +52,9 @@ def run(options: argparse.Namespace) -> int:
     check(options)
     by_user = options.by == "user" or (options.html is not None and options.by is None)
     losses = Losses(options.depth)
-    lists = None if options.acl_before is None else Lists(options.acl_before, options.acl_after)
+    lists = None
+    if options.acl_before is not None:
+        lists = Lists(AccessList(options.acl_before), AccessList(options.acl_after))
     if by_user or options.why or options.html is not None or lists:
         losses.reasons = Reasons(by_user, losses.gathered, lists)
     compare(losses, options.script, options.before, options.after)

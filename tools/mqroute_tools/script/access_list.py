@@ -5,15 +5,13 @@ The program is $MQROUTE_ACL_PROGRAM, or the one that stands in the same clone or
 """
 import json
 import os
-import subprocess
 import tempfile
 import weakref
 from dataclasses import dataclass
 from typing import Any, NamedTuple
 
-from ..common.exit_status import Fault
 from ..common.files import STDIN, open_input, plain_file
-from ..common.programs import find_program
+from ..common.programs import find_program, output_of
 
 NO_LINE = "no line allows it"
 CLIENT_MARK = b"%c"
@@ -84,13 +82,7 @@ class AccessList:
         user = [] if asked.user is None else [f"--user={asked.user}"]
         words = [self.program, "why", "--json", *self.options, *user, "--", self.path,
                  asked.client, asked.topic]
-        try:
-            done = subprocess.run(words, capture_output=True)
-        except OSError as fault:
-            raise Fault(f"cannot run {self.program}: {fault.strerror}") from fault
-        if done.returncode:
-            said = done.stderr.decode("utf-8", "replace").strip().replace(self.path, self.name)
-            raise Fault(said or f"{self.program} ended with status {done.returncode}")
+        done = output_of(words, lambda text: text.replace(self.path, self.name), (0,))
         told = map(self.verdict_of, done.stdout.decode("utf-8").splitlines())
         return {one.access: one for one in told}
 

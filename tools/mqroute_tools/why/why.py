@@ -13,7 +13,7 @@ import sys
 from ..common.exit_status import UsageFault
 from ..common.files import at, keep_apart, refuse_stdin_twice
 from ..common.option_values import whole_number
-from ..log.options import add_log_options
+from ..log.options import NAMES, add_log_options
 from ..script.access_list import AccessList
 from ..script.oracle import RULES
 from .answering import answered
@@ -22,7 +22,7 @@ from .lines import Question, read_script
 from .report import report
 
 MOST = 4_294_967_295
-OF_LOG = ("topic", "at", "time_format", "session_expiry", "no_inference", "begin")
+OF_LOG = ("topic", "at", *NAMES)
 
 
 def add_arguments(parser: argparse.ArgumentParser) -> None:
