@@ -25,6 +25,7 @@ SUBCOMMANDS = {
     "who-loses": Entry(
         "losses.who_loses", "tells who loses which copies between two runs of a script"),
     "why": Entry("why.why", "shows why a client was sent a message of a script, or wasn't"),
+    "preview": Entry("preview.preview", "shows what a proposed access list would change"),
     "replay": Entry("live.replay", "runs a script on a live broker and compares with mqroute"),
     "compare-log": Entry(
         "log.compare_log", "compares a mosquitto log's own copies with mqroute's"),
@@ -91,6 +92,10 @@ def who_loses() -> int:
 
 def why() -> int:
     return run("why")
+
+
+def preview() -> int:
+    return run("preview")
 
 
 def replay() -> int:

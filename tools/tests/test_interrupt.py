@@ -22,7 +22,8 @@ from mqroute_tools.search.search import searched
 
 # What a tool reads while it waits for more of its standard input.
 READING = {"log_to_script": ["-"], "check": ["-"], "compare_log": ["-", "out"],
-           "who_loses": ["-", "out", "out"], "why": ["-", "1"]}
+           "who_loses": ["-", "out", "out"], "why": ["-", "1"],
+           "preview": ["out", "out", "-"]}
 PATIENCE = 20  # seconds
 
 

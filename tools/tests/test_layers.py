@@ -11,6 +11,7 @@ PACKAGE = HERE / "mqroute_tools"
 # each folder, with those that it may import from
 BELOW = {"common": set(), "script": {"common"}, "log": {"common", "script"},
          "losses": {"common", "script"}, "why": {"common", "script", "log"},
+         "preview": {"common", "script", "log", "losses"},
          "live": {"common", "script"}, "search": {"common", "script", "live"}}
 
 

@@ -14,7 +14,8 @@ from worked import HERE, TOP
 
 # which make install wants
 BUILT = [TOP / f"crates/{name}/out/{name}" for name in ("mqroute", "mqroute_acl")]
-TOOLS = ("log_to_script", "who_loses", "why", "replay", "compare_log", "check", "search", "tools")
+TOOLS = ("log_to_script", "who_loses", "why", "preview", "replay", "compare_log", "check", "search",
+         "tools")
 SECTIONS = ["NAME", "SYNOPSIS", "DESCRIPTION", "OPTIONS", "EXIT STATUS", "EXAMPLE", "SEE ALSO"]
 PROGRAMS = ("mqroute", "mqroute-acl")
 # What each page has under SEE ALSO at least.

@@ -58,6 +58,10 @@ class Sessions(unittest.TestCase):
         self.check("Is this a script?", 1)
 
     @unittest.skipUnless(ACL_PROGRAM.exists(), f"there is no {ACL_PROGRAM}")
+    def test_preview(self):
+        self.check("Preview: what would this list change?", 1)
+
+    @unittest.skipUnless(ACL_PROGRAM.exists(), f"there is no {ACL_PROGRAM}")
     def test_why(self):
         self.check("Why was this client sent it, or not?", 3, left_out="")
 

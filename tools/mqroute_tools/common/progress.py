@@ -16,9 +16,14 @@ class Progress:
     def at(self, line: int, of: int) -> None:
         self.of = of
         if self.shown and time.monotonic() >= self.next:
-            text = f"{self.things} {line} of {of}"
-            self.next, self.width = time.monotonic() + EVERY, len(text)
-            print(text, end="\r", file=sys.stderr, flush=True)
+            self.next = time.monotonic() + EVERY
+            self.show(f"{self.things} {line} of {of}")
+
+    def show(self, text: str) -> None:
+        """At once, over what stood there."""
+        if self.shown:
+            print(text.ljust(self.width), end="\r", file=sys.stderr, flush=True)
+            self.width = len(text)
 
     def clear(self) -> None:
         """Before something else is written to the terminal."""

@@ -1,0 +1,83 @@
+"""What mqroute-acl answers about both lists: rights, subscriptions in vain, remarks."""
+import json
+from collections import Counter
+from collections.abc import Iterator
+
+from ..common.programs import output_of
+from ..script.access_list import AccessList, Line
+from .findings import Client, Deciding, Json, Remark, Right, Subscription
+
+Asked = tuple[list[Json], list[str]]  # the objects of an answer, and what is noted beside it
+
+
+class Lists:
+    """The list that is in force and the one that is proposed, and by whose rules they are read.
+
+    Without rules they are mqroute's own, and `rights` notes where mosquitto decides otherwise.
+    """
+
+    def __init__(self, current: str, proposed: str, rules: str | None) -> None:
+        self.current = AccessList(current, rules)
+        self.proposed = AccessList(proposed, rules)
+        self.rules = rules
+        self.names = {one.path: one.name for one in (self.current, self.proposed)}
+
+    def asked(self, subcommand: str, words: list[str], quiet: bool = True) -> Asked:
+        """Raises Fault where mqroute-acl ends with another status than 0 and 1."""
+        rules = [f"--rules={self.rules or 'own'}"] if quiet or self.rules else []
+        given = [self.current.program, subcommand, "--json", *rules, *words]
+        done = output_of(given, self.named)
+        told = [json.loads(line) for line in done.stdout.decode("utf-8").splitlines()]
+        notes = self.named(done.stderr.decode("utf-8", "replace")).splitlines()
+        return told, notes
+
+    def named(self, text: str) -> str:
+        """With the names of the files, where the programs read copies."""
+        for path, name in self.names.items():
+            text = text.replace(path, name) if path != name else text
+        return text
+
+    def rights(self) -> tuple[list[Right], list[str]]:
+        """The differences that `mqroute-acl compare` shows, each with all whom it concerns; and
+        what it notes."""
+        rows, notes = self.asked(
+            "compare", ["--", self.current.path, self.proposed.path], quiet=False)
+        known: dict[tuple[str, str, str, int, int], Right] = {}
+        for row in rows:
+            old, new = self.current.line(row["old"]), self.proposed.line(row["new"])
+            key = row["change"], row["access"], row["topic"], number(old), number(new)
+            right = known.setdefault(key, Right(*key[:3], Deciding(old, new), []))
+            right.clients.append(Client(row["user"], row["client"], row["made_up"]))
+        return list(known.values()), notes
+
+    def newly_in_vain(self, script: str) -> list[Subscription]:
+        """Those that can receive something under the current list, and nothing under the proposed
+        one: once for each client, user name and filter."""
+        before = {one.line for one in self.in_vain(self.current, script)}
+        found = {(one.client, one.user, one.filter): one
+                 for one in reversed(self.in_vain(self.proposed, script))
+                 if one.line not in before}
+        return sorted(found.values(), key=lambda one: (one.client, one.filter, one.line))
+
+    def in_vain(self, one: AccessList, script: str) -> list[Subscription]:
+        rows, _ = self.asked("reach", [f"--script={script}", "--", one.path])
+        return [Subscription(row["line"], row["client"], row["user"], row["filter"])
+                for row in rows if "filter" in row]
+
+    def new_remarks(self) -> Iterator[Remark]:
+        """The remarks of `mqroute-acl lint` on the proposed list: those on texts of lines on which
+        it remarks the same in the current list are left out, as often as there."""
+        known = Counter((one.kind, one.text) for one in self.remarks(self.current))
+        for one in self.remarks(self.proposed):
+            if known[one.kind, one.text]:
+                known[one.kind, one.text] -= 1
+            else:
+                yield one
+
+    def remarks(self, one: AccessList) -> list[Remark]:
+        rows, _ = self.asked("lint", ["--", one.path])
+        return [Remark(row["kind"], row["line"], row["text"], row["words"]) for row in rows]
+
+
+def number(line: Line | None) -> int:
+    return line.line if line else 0

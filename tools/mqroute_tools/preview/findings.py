@@ -1,0 +1,173 @@
+"""What a preview finds, and how JSON has it."""
+from collections.abc import Iterable
+from dataclasses import asdict, dataclass, field
+from typing import Any
+
+from ..losses.findings import Place, Totals
+from ..script.access_list import Line
+from .gathered_topics import Topics
+from .script_facts import ScriptFacts
+
+Json = dict[str, Any]
+GAINED, LOST = "gained", "lost"
+
+
+@dataclass
+class Deciding:
+    """The line of each list that decides; None where no line allows it."""
+    current: Line | None
+    proposed: Line | None
+
+
+@dataclass
+class Cause:
+    """Messages of one user, or refused publishes, that have one cause."""
+    what: str  # lost, gained, changed; refused, accepted
+    count: int
+    because: str
+    deciding: Deciding | None  # None where no list was asked
+    lines: list[Place]  # the first of the script
+    command: str | None = None  # of mqroute-why, on the first of these lines
+
+    def json(self) -> Json:
+        first = self.lines[0]
+        return {"what": self.what, "count": self.count, "because": self.because,
+                "deciding": asdict(self.deciding) if self.deciding else None,
+                "line": first.line, "client": first.client, "why": self.command,
+                "lines": [place.json() for place in self.lines]}
+
+
+@dataclass
+class UserRow:
+    """The messages of the clients of one user name, or of those without one."""
+    user: str | None
+    clients: int = 0  # for which something changes
+    before: int = 0
+    after: int = 0
+    lost: int = 0
+    gained: int = 0
+    changed: int = 0  # another QoS, RETAIN flag, payload or expiry
+    topics_lost: list[Topics] = field(default_factory=list)
+    topics_gained: list[Topics] = field(default_factory=list)
+    causes: list[Cause] = field(default_factory=list)
+
+    def share_lost(self) -> float:
+        return self.lost / self.before if self.before else 0.0
+
+    def json(self) -> Json:
+        return asdict(self) | {"causes": [cause.json() for cause in self.causes]}
+
+
+@dataclass
+class RefusedRow:
+    """The publishes of the clients of one user name of which one list alone lets them be."""
+    user: str | None
+    clients: int = 0
+    refused: int = 0  # by the proposed list alone
+    accepted: int = 0
+    topics: list[Topics] = field(default_factory=list)
+    causes: list[Cause] = field(default_factory=list)
+
+    def json(self) -> Json:
+        return asdict(self) | {"causes": [cause.json() for cause in self.causes]}
+
+
+@dataclass
+class Client:
+    """Of whom a right is: `made_up` are those of the client id, the user name and the levels of
+    the topic that stand for any other."""
+    user: str | None
+    client: str
+    made_up: list[str]
+
+    def is_any_user(self) -> bool:
+        return self.user is not None and self.user in self.made_up
+
+
+@dataclass
+class Right:
+    """One difference as `mqroute-acl compare` has it."""
+    change: str  # gained or lost
+    access: str  # read or write
+    topic: str
+    deciding: Deciding
+    clients: list[Client]
+
+    def json(self) -> Json:
+        return {"access": self.access, "topic": self.topic, **asdict(self.deciding),
+                "clients": [asdict(client) for client in self.clients]}
+
+
+@dataclass
+class Subscription:
+    """One that can receive nothing, with the line of the script that subscribes."""
+    line: int
+    client: str
+    user: str | None
+    filter: str
+
+
+@dataclass
+class Remark:
+    """A remark of `mqroute-acl lint`. Of a whole list it has no line."""
+    kind: str
+    line: int | None
+    text: str | None
+    words: str
+
+
+@dataclass
+class Preview:
+    current: str
+    proposed: str
+    sources: list[str]
+    rules: str
+    script: str | None  # under which name the script can be read later
+    users: list[UserRow]
+    refused: list[RefusedRow]
+    granted: list[Right]
+    taken: list[Right]
+    subscriptions: list[Subscription]
+    remarks: list[Remark]
+    copies: Totals
+    notes: list[str]  # on the rules, of mqroute-acl
+    facts: ScriptFacts = field(default_factory=ScriptFacts)
+    could_keep: bool = False  # whether with --keep the causes would have commands
+
+    def changes(self) -> bool:
+        """Whether anything does; a remark alone is no change."""
+        return bool(self.users or self.refused or self.granted or self.taken
+                    or self.subscriptions)
+
+    def losing(self) -> list[UserRow]:
+        return [row for row in self.users if row.lost]
+
+    def gaining(self) -> list[UserRow]:
+        return [row for row in self.users if row.gained]
+
+    def causes(self) -> list[Cause]:
+        """Of messages, then of refusals."""
+        return ([cause for row in self.users for cause in row.causes]
+                + [cause for row in self.refused for cause in row.causes])
+
+    def totals(self) -> dict[str, int]:
+        return vars(self.copies) | {
+            "users_losing": len(self.losing()), "users_gaining": len(self.gaining()),
+            "granted": len(self.granted), "taken": len(self.taken),
+            "subscriptions": len(self.subscriptions)}
+
+    def json(self, summary: str) -> Json:
+        return {"current": self.current, "proposed": self.proposed, "sources": self.sources,
+                "rules": self.rules, "clients": self.facts.clients,
+                "publishes": self.facts.publishes,
+                "users": [row.json() for row in self.users],
+                "refused": [row.json() for row in self.refused],
+                "granted": [right.json() for right in self.granted],
+                "taken": [right.json() for right in self.taken],
+                "subscriptions": as_objects(self.subscriptions),
+                "remarks": as_objects(self.remarks), "notes": self.notes,
+                "totals": self.totals(), "summary": summary}
+
+
+def as_objects(rows: Iterable[Subscription | Remark]) -> list[Json]:
+    return [asdict(row) for row in rows]

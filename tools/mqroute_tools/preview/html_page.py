@@ -1,0 +1,88 @@
+"""A preview as one page of HTML, which loads nothing and runs nothing."""
+import time
+from collections.abc import Iterator
+
+from ..common.files import whole
+from ..common.messages import counted
+from ..common.page_frame import ENDING, beginning
+from ..losses.html_escape import escaped
+from .findings import Preview
+from .list_commit import commit_of
+from .page_rows import Rows
+from .page_style import STYLE
+from .share_picture import picture
+from .verdict import verdict
+from .words import summary, tried
+
+TITLE = "A new access list: who loses, who gains, what is newly allowed"
+LEGEND = ("<p class='legend'><i class='key kept'></i> stays <i class='key lost'></i> lost "
+          "<i class='key gained'></i> gained: of the messages that each user gets now, and would "
+          "gain</p>\n")
+
+
+def write(name: str, found: Preview, title: str | None) -> None:
+    """Beside its place, and then renamed. Raises OSError where it can't be written."""
+    with whole(name) as out:
+        out.writelines(part.encode("utf-8") for part in parts(found, title or TITLE))
+
+
+def parts(found: Preview, title: str) -> Iterator[str]:
+    rows = Rows(found)
+    yield beginning(escaped(title), STYLE)
+    yield f"<header><h1>{escaped(title)}</h1>\n{about(found)}{verdict_of(found)}</header>\n"
+    yield notes(found)
+    for rights, name, head, grants in (
+            (found.granted, "granted", "Newly allowed", (found.proposed, found.current)),
+            (found.taken, "taken", "No longer allowed", (found.current, found.proposed))):
+        if rights:
+            caption = (f"{counted(len(rights), 'rights', ',')} that {file(grants[0])} grants and "
+                       f"{file(grants[1])} doesn't, whether or not anybody tried")
+            yield section(head, rows.rights(name, rights, caption))
+    if found.users:
+        drawn = any(row.lost or row.gained for row in found.users)
+        yield section("Who loses, who gains",
+                      (LEGEND + picture(found.users) if drawn else "") + rows.users())
+    if found.refused:
+        yield section("Whose publishes are refused, whose no longer", rows.refused())
+    if found.subscriptions:
+        yield section("Subscriptions that can receive nothing any more", rows.subscriptions())
+    if found.remarks:
+        yield section(f"New remarks on {file(found.proposed)}", rows.remarks())
+    yield f"<p id='summary'>{escaped(summary(found))}</p>\n{ENDING}"
+
+
+def section(head: str, inside: str) -> str:
+    return f"<section><h2>{head}</h2>\n{inside}</section>\n"
+
+
+def file(name: str) -> str:
+    return f"<bdi class='file'>{escaped(name)}</bdi>"
+
+
+def about(found: Preview) -> str:
+    """Which lists, on what, and when."""
+    lists = [file(name) + committed(name) for name in (found.proposed, found.current)]
+    sources = ", ".join(map(file, found.sources))
+    now = time.strftime("%Y-%m-%d %H:%M")
+    return (f"<p class='about'>{' in place of '.join(lists)}, tried on {sources}: "
+            f"{tried(found)}. <time datetime='{now.replace(' ', 'T')}'>{now}</time></p>\n")
+
+
+def committed(name: str) -> str:
+    commit = commit_of(name)
+    return f" (commit {escaped(commit)})" if commit else ""
+
+
+def verdict_of(found: Preview) -> str:
+    said = verdict(found)
+    kind = "loss" if any(one.is_loss for one in said) else "other" if found.changes() else "none"
+    sentences = " ".join(
+        (f"<b><bdi>{escaped(one.strong)}</bdi></b> " if one.strong else "") + escaped(one.rest)
+        for one in said)
+    return f"<p id='verdict' class='{kind}'>{sentences}</p>\n"
+
+
+def notes(found: Preview) -> str:
+    """On whose rules an answer holds, or where other rules decide otherwise."""
+    items = "".join(f"<li>{escaped(note)}</li>" for note in found.notes)
+    return f"<ul class='notes'>{items}</ul>\n" if items else ""

@@ -1,0 +1,132 @@
+"""The rows of a preview's page."""
+from collections.abc import Iterable, Iterator
+
+from ..common.files import at
+from ..common.messages import counted
+from ..losses.html_escape import escaped, visible
+from ..losses.script_lines import script_lines
+from ..script.access_list import Line
+from .findings import Cause, Deciding, Preview, RefusedRow, Remark, Right, Subscription, UserRow
+from .gathered_topics import Topics
+from .page_tables import Column, cell, head_cell, number, row, table
+from .words import NO_LINE, OTHERWISE, concerned, made_up, may, share, topic_count, whom
+
+USERS = (Column("User"), Column("Clients", True), Column("Before", True), Column("After", True),
+         Column("Lost", True), Column("Gained", True), Column("Topics"))
+REFUSED = (Column("User"), Column("Clients", True), Column("Refused", True),
+           Column("No longer", True), Column("Topics"))
+RIGHTS = (Column("Who"), Column("What"), Column("Topic, for example"), Column("Line that decides"))
+COUNTED = {"lost": "messages lost", "gained": "messages gained", "refused": "publishes refused",
+           "accepted": "publishes no longer refused", "changed": f"messages with {OTHERWISE}"}
+
+
+class Rows:
+    def __init__(self, found: Preview) -> None:
+        self.found = found
+
+    def users(self) -> str:
+        rows = (part for one in self.found.users for part in self.user(one))
+        return table("users", "Messages delivered, by user name; of those for whom something "
+                     "changes", USERS, rows)
+
+    def user(self, one: UserRow) -> Iterator[str]:
+        lost = f" ({share(one.lost, one.before)})" if one.lost else ""
+        topics = topic_list(one.topics_lost, "") + topic_list(
+            one.topics_gained, "gained: " if one.topics_lost else "")
+        yield row((head_cell(f"<bdi>{escaped(whom(one.user))}</bdi>"),
+                   number(one.clients, "clients", "clients"),
+                   number(one.before, "before", "before"), number(one.after, "after", "after"),
+                   number(one.lost, "lost share" if one.lost else "none share", "lost", lost),
+                   number(one.gained, "gained" if one.gained else "none", "gained"),
+                   cell(topics, "of-topics")), "above")
+        yield self.opens(one.user, one.causes, len(USERS))
+
+    def refused(self) -> str:
+        rows = (part for one in self.found.refused for part in self.refused_user(one))
+        return table("refused", "Publishes that one list alone refuses, by the publisher's user "
+                     "name", REFUSED, rows)
+
+    def refused_user(self, one: RefusedRow) -> Iterator[str]:
+        yield row((head_cell(f"<bdi>{escaped(whom(one.user))}</bdi>"),
+                   number(one.clients, "clients", "clients"),
+                   number(one.refused, "lost" if one.refused else "none", "refused"),
+                   number(one.accepted, "gained" if one.accepted else "none", "no longer"),
+                   cell(topic_list(one.topics, ""), "of-topics")), "above")
+        yield self.opens(one.user, one.causes, len(REFUSED))
+
+    def opens(self, user: str | None, causes: list[Cause], columns: int) -> str:
+        """A row below, which opens to the causes."""
+        inside = "".join(self.cause(cause) for cause in causes)
+        summary = (f"{counted(len(causes), 'causes', ',')}<span class='hidden'> for "
+                   f"<bdi>{escaped(whom(user))}</bdi></span>")
+        details = f"<details><summary>{summary}</summary>{inside}</details>"
+        return row([cell(details, across=columns)], "opens")
+
+    def cause(self, cause: Cause) -> str:
+        words = (f"<p><b class='{paint(cause.what)} count'>{cause.count:,}</b> "
+                 f"{COUNTED[cause.what]}: <bdi class='because'>{escaped(cause.because)}</bdi></p>")
+        deciding = self.deciding(cause.deciding) if cause.deciding else ""
+        command = (f"<p class='command'>Ask about the first: <code>{escaped(cause.command)}</code>"
+                   "</p>" if cause.command else "")
+        of = "publishes" if cause.what in ("refused", "accepted") else "messages"
+        lines = script_lines(cause.lines, cause.count, of, self.found.facts.texts)
+        return f"<div class='cause'>{words}{deciding}{command}{lines}</div>"
+
+    def deciding(self, lines: Deciding) -> str:
+        """The line of each list, or that none allows it."""
+        sides = ((self.found.current, lines.current), (self.found.proposed, lines.proposed))
+        items = "".join(f"<dt>{place(name, line)}</dt><dd>{line_text(line)}</dd>"
+                        for name, line in sides)
+        return f"<dl class='decides'>{items}</dl>"
+
+    def rights(self, name: str, rights: list[Right], caption: str) -> str:
+        return table(name, caption, RIGHTS, map(self.right, rights))
+
+    def right(self, one: Right) -> str:
+        notes = made_up(one)
+        more = f"<div class='made-up'>{escaped(notes)}</div>" if notes else ""
+        return row((head_cell(f"<bdi>{escaped(concerned(one, None))}</bdi>"),
+                    cell(may(one), f"may {one.change}"),
+                    cell(f"<code><bdi>{visible(one.topic)}</bdi></code>{more}", "topic"),
+                    cell(self.deciding(one.deciding), "lines")))
+
+    def subscriptions(self) -> str:
+        columns = Column("Client"), Column("User"), Column("Filter"), Column("Line of the script")
+        return table("in-vain", "What these clients subscribe to, the proposed list lets them read "
+                     "nothing of", columns, map(self.subscription, self.found.subscriptions))
+
+    def subscription(self, one: Subscription) -> str:
+        user = "none" if one.user is None else f"<bdi>{visible(one.user)}</bdi>"
+        return row((head_cell(f"<bdi>{visible(one.client)}</bdi>"), cell(user, name="user"),
+                    cell(f"<code><bdi>{visible(one.filter)}</bdi></code>"),
+                    cell(f"{one.line:,}", "line", "line")))
+
+    def remarks(self) -> str:
+        columns = Column("Line"), Column("Text"), Column("Remark")
+        return table("remarks", "What <code>mqroute-acl lint</code> says of the proposed list, and "
+                     "not of the current one", columns, map(self.remark, self.found.remarks))
+
+    def remark(self, one: Remark) -> str:
+        where = "the list" if one.line is None else escaped(at(self.found.proposed, one.line))
+        text = f"<code><bdi>{escaped((one.text or '').strip())}</bdi></code>" if one.text else ""
+        return row((head_cell(f"<bdi>{where}</bdi>"), cell(text), cell(escaped(one.words))))
+
+
+def paint(what: str) -> str:
+    return {"refused": "lost", "accepted": "gained"}.get(what, what)
+
+
+def topic_list(topics: Iterable[Topics], before: str) -> str:
+    items = "".join(f"<li>{before}<code><bdi>{visible(one.filter)}</bdi></code>"
+                    f"<span>{topic_count(one)}</span></li>" for one in topics)
+    return f"<ul class='topics'>{items}</ul>" if items else ""
+
+
+def place(name: str, line: Line | None) -> str:
+    return f"<bdi>{escaped(name if line is None else at(name, line.line))}</bdi>"
+
+
+def line_text(line: Line | None) -> str:
+    if line is None:
+        return NO_LINE
+    return f"<code><bdi>{escaped(line.text.strip())}</bdi></code>"

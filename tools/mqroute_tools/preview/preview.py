@@ -1,0 +1,73 @@
+"""preview: shows what a proposed access list would change: who loses, who gains, what is newly
+allowed and no longer allowed to anybody, and which subscriptions can receive nothing any more.
+
+It decides nothing itself: mqroute runs the script under both lists, mqroute-acl answers about the
+lists, and what differs is found as by who-loses.
+Exit status: 0 nothing changes; 1 something does; 2 usage, or a file or a program failed.
+"""
+import argparse
+import json
+import os
+import sys
+from pathlib import Path
+
+from ..common.exit_status import UsageFault
+from ..common.files import keep_apart, refuse_stdin_twice
+from ..common.option_values import whole_number
+from ..common.terminal import standard_output
+from ..log.options import add_log_options
+from ..script.oracle import RULES
+from . import kept_folder
+
+MOST = 4_294_967_295
+
+
+def add_arguments(parser: argparse.ArgumentParser) -> None:
+    parser.description = ("Shows what a proposed access list would change, tried on a log or a "
+                          "script.")
+    parser.add_argument("current", help="the access list that is in force, or -: standard input")
+    parser.add_argument("proposed", help="the list in its place")
+    parser.add_argument("source", nargs="+", metavar="log-or-script",
+                        help="a script for mqroute, or mosquitto logs that follow one another")
+    parser.add_argument("--rules", choices=RULES,
+                        help="by whose rules lists are read, and decide (own)")
+    parser.add_argument("--html", metavar="FILE", help="write a page, too")
+    parser.add_argument("--title", help="of the page")
+    parser.add_argument("--json", action="store_true", help="one JSON object in place of the text")
+    parser.add_argument("--keep", metavar="FOLDER",
+                        help="leave the script of a log and both outputs there")
+    for name in ("--max-retained", "--max-queued"):
+        parser.add_argument(name, type=whole_number(0, MOST), metavar="N", help="as for mqroute")
+    add_log_options(parser)
+
+
+def check(options: argparse.Namespace) -> None:
+    """Refuses arguments that don't go together, and a file that is read and written."""
+    if options.title is not None and options.html is None:
+        raise UsageFault("--title wants --html")
+    read = [options.current, options.proposed, *options.source, options.begin]
+    refuse_stdin_twice(read)
+    keep_apart(read, {"--html": options.html})
+    kept_folder.refuse_to_overwrite(options.keep)
+    if None not in (options.html, options.keep):
+        names = (kept_folder.SCRIPT, kept_folder.BEFORE, kept_folder.AFTER)
+        if os.path.realpath(options.html) in (
+                os.path.realpath(Path(options.keep, name)) for name in names):
+            raise UsageFault("--html names a file that --keep writes")
+
+
+def run(options: argparse.Namespace) -> int:
+    check(options)
+    from . import gathering, html_page, text_report, words  # take time to load
+    with kept_folder.work_folder(options.keep) as folder:
+        found = gathering.preview_of(options, folder)
+        if options.html is not None:
+            html_page.write(options.html, found, options.title)
+        if options.keep is not None:
+            kept_folder.keep(folder, options.keep)
+    if options.json:
+        text = json.dumps(found.json(words.summary(found)), ensure_ascii=False, indent=1) + "\n"
+    else:
+        text = text_report.report(found, standard_output())
+    sys.stdout.buffer.write(text.encode("utf-8", "backslashreplace"))
+    return 1 if found.changes() else 0

@@ -1,0 +1,157 @@
+"""What a preview finds, as text for a terminal or a file."""
+import json
+from collections.abc import Callable, Iterable, Iterator
+from typing import TypeVar
+
+from ..common.files import at
+from ..common.tables import shown
+from ..common.terminal import BOLD, DIM, GREEN, RED, Terminal
+from ..script.access_list import Line
+from .findings import Cause, Deciding, Preview, RefusedRow, Remark, Right, Subscription, UserRow
+from .gathered_topics import Topics
+from .words import (
+    NO_LINE, changes, concerned, made_up, may, refusals, summary, topic_count, tried, verb, whom)
+
+ROWS = 20  # of each section
+CAUSES, TOPICS = 6, 4  # of each row
+Row = TypeVar("Row")
+PAINT = {"lost": RED, "refused": RED, "gained": GREEN, "accepted": GREEN}
+COUNTED = {"lost": "lost", "gained": "gained", "changed": "changed", "refused": "refused",
+           "accepted": "no longer refused"}
+KEEP_HINT = ("with --keep FOLDER the script stays, and each cause has a command that shows more "
+             "of its first line")
+
+
+def report(found: Preview, out: Terminal) -> str:
+    return Report(found, out).text()
+
+
+class Report:
+    def __init__(self, found: Preview, out: Terminal) -> None:
+        self.found, self.out = found, out
+
+    def text(self) -> str:
+        found = self.found
+        parts = [self.head()]
+        sections: list[tuple[str, Iterator[str]]] = [
+            ("Who loses, who gains, of the messages delivered",
+             self.first(found.users, self.user)),
+            ("Whose publishes are refused, whose no longer",
+             self.first(found.refused, self.refused)),
+            ("Newly allowed, whether or not anybody tried",
+             self.first(found.granted, self.right)),
+            ("No longer allowed, whether or not anybody tried",
+             self.first(found.taken, self.right)),
+            ("Subscriptions that can receive nothing any more",
+             self.first(found.subscriptions, self.subscription)),
+            (f"New remarks on {shown(found.proposed)}", self.first(found.remarks, self.remark))]
+        for title, lines in sections:
+            body = list(lines)
+            parts += ["\n".join([self.out.painted(BOLD, title), *body])] if body else []
+        if found.could_keep and found.causes():
+            parts.append("\n".join(self.dim(KEEP_HINT, "", "")))
+        parts.append(summary(found))
+        return "\n\n".join(parts) + "\n"
+
+    def head(self) -> str:
+        found = self.found
+        sources = ", ".join(map(shown, found.sources))
+        return "\n".join(self.out.wrapped(
+            f"{shown(found.proposed)} in place of {shown(found.current)}, tried on {sources}: "
+            f"{tried(found)}"))
+
+    def first(self, rows: list[Row], shows: Callable[[Row], Iterable[str]]) -> Iterator[str]:
+        for row in rows[:ROWS]:
+            yield from shows(row)
+        if len(rows) > ROWS:
+            yield f"  and {len(rows) - ROWS:,} more: --json has all"
+
+    def dim(self, text: str, indent: str, later: str | None = None) -> list[str]:
+        return [self.out.painted(DIM, line) for line in self.out.wrapped(text, indent, later)]
+
+    # -- rows
+
+    def user(self, row: UserRow) -> Iterator[str]:
+        colour = RED if row.lost else GREEN if row.gained else ""
+        yield from self.head_of(f"{whom(row.user)} {', '.join(changes(row))}", colour)
+        for topics, word in ((row.topics_lost, "loses"), (row.topics_gained, "gains")):
+            if topics:
+                both = bool(row.topics_lost and row.topics_gained)
+                yield from self.topics(topics, f"{verb(row.user, word)} " if both else "")
+        yield from self.causes(row.causes)
+
+    def refused(self, row: RefusedRow) -> Iterator[str]:
+        colour = RED if row.refused else GREEN
+        yield from self.head_of(f"{whom(row.user)} {refusals(row)}", colour)
+        yield from self.topics(row.topics, "")
+        yield from self.causes(row.causes)
+
+    def head_of(self, text: str, colour: str) -> list[str]:
+        lines = self.out.wrapped(text, "  ", "      ")
+        return [self.out.painted(colour, line) if colour else line for line in lines]
+
+    def topics(self, topics: list[Topics], what: str) -> list[str]:
+        names = ", ".join(f"{listed(row.filter)}{topic_count(row)}" for row in topics[:TOPICS])
+        more = f" and {len(topics) - TOPICS:,} more" if len(topics) > TOPICS else ""
+        return self.out.wrapped(f"{what}{names}{more}", "      ", "        ")
+
+    def causes(self, causes: list[Cause]) -> Iterator[str]:
+        for cause in causes[:CAUSES]:
+            yield from self.cause(cause)
+        if len(causes) > CAUSES:
+            yield f"    and {len(causes) - CAUSES:,} more causes"
+
+    def cause(self, cause: Cause) -> Iterator[str]:
+        count = self.out.painted(PAINT.get(cause.what, ""), f"{cause.count:,}")
+        words = f"{COUNTED[cause.what]}: {cause.because}"
+        first, *others = self.out.wrapped(f"{cause.count:,} {words}", "    ", "        ")
+        yield first.replace(f"{cause.count:,}", count, 1)
+        yield from others
+        if cause.deciding:
+            yield from self.deciding(cause.deciding, "        ")
+        if cause.command:
+            yield self.out.painted(DIM, f"        {cause.command}")  # whole, to be pasted
+        else:
+            place = cause.lines[0]
+            client = f", client {listed(place.client)}" if place.client else ""
+            yield from self.dim(f"first at line {place.line} of the script{client}", "        ")
+
+    def deciding(self, lines: Deciding, indent: str) -> list[str]:
+        """The line of each list, or that none allows it."""
+        found = self.found
+        sides = [side(found.current, lines.current), side(found.proposed, lines.proposed)]
+        width = max(len(place) for place, _ in sides)
+        return [line for place, words in sides for line in
+                self.dim(f"{place.ljust(width)}  {words}", indent, indent + "    ")]
+
+    def right(self, right: Right) -> Iterator[str]:
+        colour = PAINT[right.change]
+        parts = [concerned(right), f"{may(right)}  {shown(right.topic)}", made_up(right)]
+        for line in self.out.fitted(parts, "  "):
+            yield self.out.painted(colour, line)
+        yield from self.deciding(right.deciding, "      ")
+
+    def subscription(self, one: Subscription) -> list[str]:
+        user = "no user name" if one.user is None else f"user {shown(one.user)}"
+        script = self.found.script
+        place = at(shown(script), one.line) if script else f"line {one.line} of the script"
+        return self.out.fitted([place, f"{shown(one.client)}  {user}", shown(one.filter)], "  ")
+
+    def remark(self, one: Remark) -> Iterator[str]:
+        if one.line is None:
+            yield from self.out.wrapped(one.words, "  ", "      ")
+            return
+        place = at(shown(self.found.proposed), one.line)
+        yield from self.out.fitted([place, shown((one.text or "").strip())], "  ")
+        yield from self.dim(one.words, "      ")
+
+
+def listed(name: str) -> str:
+    """In quotes too where it could be taken for several."""
+    return json.dumps(name, ensure_ascii=False) if ", " in name else shown(name)
+
+
+def side(name: str, line: Line | None) -> tuple[str, str]:
+    if line is None:
+        return shown(name), NO_LINE
+    return at(shown(name), line.line), shown(line.text.strip())

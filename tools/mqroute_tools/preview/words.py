@@ -1,0 +1,130 @@
+"""The words for what a preview finds, in the text and on the page."""
+from collections.abc import Iterable
+
+from ..common.messages import counted
+from ..common.tables import shown, user_shown
+from .findings import GAINED, Client, Preview, RefusedRow, Right, UserRow
+from .gathered_topics import Topics
+
+MOST_NAMES = 4  # of user names that a right is of
+NO_NAME = "clients without a user name"
+RULES = {"own": "mqroute's own rules", "mosquitto": "mosquitto's rules"}
+NO_LINE = "no line allows it"
+OTHERWISE = "another QoS, RETAIN flag, payload or expiry"
+ANY_LEVEL = "any other level"
+
+
+def whom(user: str | None) -> str:
+    return NO_NAME if user is None else user_shown(user)
+
+
+def verb(user: str | None, word: str) -> str:
+    """`loses` of a user, and `lose` of the clients without a user name."""
+    plurals = {"has": "have"}
+    return word if user is not None else plurals.get(word, word.removesuffix("s"))
+
+
+def share(part: int, whole: int) -> str:
+    """In percent, as a whole number."""
+    percent = round(100 * part / whole)
+    if percent == 100 and part < whole:
+        return "over 99 %"
+    return f"{percent} %" if percent or not part else "under 1 %"
+
+
+def loses(row: UserRow) -> str:
+    amount = (f"all {row.before:,}" if row.lost == row.before else
+              f"{row.lost:,} of {row.before:,} ({share(row.lost, row.before)})")
+    return f"{verb(row.user, 'loses')} {amount}"
+
+
+def gains(row: UserRow) -> str:
+    return f"{verb(row.user, 'gains')} {row.gained:,}, to {row.after:,}"
+
+
+def changes(row: UserRow) -> list[str]:
+    """What becomes of a user's messages, without the name."""
+    parts = [loses(row)] if row.lost else []
+    parts += [gains(row)] if row.gained else []
+    return parts + ([f"{verb(row.user, 'gets')} {row.changed:,} with {OTHERWISE}"]
+                    if row.changed else [])
+
+
+def refusals(row: RefusedRow) -> str:
+    parts = [f"{counted(number, 'publishes', ',')} {word}" for number, word in (
+        (row.refused, "refused"), (row.accepted, "no longer refused")) if number]
+    return f"{verb(row.user, 'has')} {' and '.join(parts)}"
+
+
+def topic_count(row: Topics) -> str:
+    """Of a filter that stands for several."""
+    return f" ({row.topics:,} topics)" if row.topics > 1 else ""
+
+
+def number_form(number: int, word: str) -> str:
+    return f"{number:,} {word}s" if number == 1 else f"{number:,} {word}"
+
+
+def summary(found: Preview) -> str:
+    """All in one line."""
+    losing, gaining = len(found.losing()), len(found.gaining())
+    loses = "loses" if losing == 1 else "lose"
+    return (f"{counted(losing, 'users', ',')} {loses} {found.copies.lost:,} of "
+            f"{counted(found.copies.before, 'messages', ',')}, {number_form(gaining, 'gain')}; "
+            f"{counted(len(found.granted), 'rights granted', ',')}, {len(found.taken):,} taken "
+            f"away; {counted(len(found.subscriptions), 'subscriptions', ',')} can receive nothing "
+            "any more")
+
+
+def tried(found: Preview) -> str:
+    """On how much it was tried, and by whose rules."""
+    return (f"{counted(found.facts.clients, 'clients', ',')}, "
+            f"{counted(found.facts.publishes, 'publishes', ',')}; by {RULES[found.rules]}")
+
+
+# -- rights, as mqroute-acl compare words them
+
+def may(right: Right) -> str:
+    return f"may {'now' if right.change == GAINED else 'no longer'} {right.access}"
+
+
+def names(clients: Iterable[Client]) -> list[str]:
+    """The user names that are of themselves."""
+    return [shown(one.user) for one in clients
+            if one.user is not None and not one.is_any_user()]
+
+
+def concerned(right: Right, most: int | None = MOST_NAMES) -> str:
+    """Whom a right is of: `most` user names, or all."""
+    named = names(right.clients)
+    parts = ["no user name"] if any(one.user is None for one in right.clients) else []
+    if named:
+        more = f" and {len(named) - most:,} more" if most and len(named) > most else ""
+        users = "user" if len(named) == 1 else "users"
+        parts.append(f"{users} {', '.join(named[:most])}{more}")
+    if any(one.is_any_user() for one in right.clients):
+        parts.append("other users")
+    return "; ".join(parts)
+
+
+def stands_for(client: Client, level: str) -> str:
+    if level == client.client and level == client.user:
+        return "any other client id that is the user name too"
+    if level == client.client:
+        return "any other client id"
+    return "any other user name" if level == client.user else ANY_LEVEL
+
+
+def made_up(right: Right) -> str:
+    """What in the topic stands for others; and the client id, where it stands for itself."""
+    first, notes = right.clients[0], []
+    levels = right.topic.split("/")
+    for place, level in enumerate(levels):
+        if level not in first.made_up or level in levels[:place]:
+            continue
+        kind = stands_for(first, level)
+        begins = " that begins with $" if level.startswith("$") else " that doesn't begin with $"
+        notes.append(f"{level}: {kind}{begins if not place or kind == ANY_LEVEL else ''}")
+    if first.client not in first.made_up:
+        notes.append(f'client id: "{shown(first.client)}"')
+    return ", ".join(notes)
