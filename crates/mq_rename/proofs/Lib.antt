@@ -1,0 +1,9 @@
+mod FitLemmas
+mod JoinLemmas
+mod MatchLemmas
+mod MeetLemmas
+mod MetLemmas
+mod ReachLemmas
+mod BindLemmas
+mod BoundLemmas
+mod BackLemmas

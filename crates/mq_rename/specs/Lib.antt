@@ -1,0 +1,5 @@
+pub mod Lists
+pub mod Joins
+pub mod Meets
+pub mod Renames
+pub mod Bounds
