@@ -149,8 +149,7 @@ def compare_lines(losses: Losses, script: str, commands: BinaryIO, runs: list[Ru
 
 def compare_line(losses: Losses, text: bytes, runs: list[Run], number: int) -> str:
     """Counts one line of the script. Says why, if the outputs can't be of this script."""
-    here = [run.take(number) for run in runs]
-    before, after = here
+    before, after = here = [run.take(number) for run in runs]
     if is_blank(text):
         names = [run.name for run, block in zip(runs, here) if block]
         other = "has an answer to it: it is the output of another script"

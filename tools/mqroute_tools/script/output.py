@@ -14,6 +14,7 @@ Answer = dict[str, Any]  # and one of an output
 Key = tuple[str, str]  # client and topic
 COPY = '{"client":'  # mqroute prints names in ascending order: a copy alone begins so
 ACCEPTED = re.compile(r'\{"line":(\d+),"reason":(\d+)\}$')
+REFUSED = re.compile(r'\{"code":\d+,"line":(\d+),"refused":"([A-Za-z]+)"\}$')
 TEXT = r'[^"\\\x00-\x1f]*'  # a text of JSON without escapes
 PLAIN = re.compile(
     rf'\{{"client":"({TEXT})"(?:,"expiry":\d+)?(?:,"filter":"{TEXT}")?(?:,"ids":\[[\d,]*\])?'
@@ -81,6 +82,9 @@ def closed(text: str, copies: list[str]) -> Block:
     found = ACCEPTED.match(text)
     if found:
         return Block(int(found[1]), copies, int(found[2]), None, text)
+    found = REFUSED.match(text)
+    if found:
+        return Block(int(found[1]), copies, None, found[2], text)
     end = read_json(text)
     accepted = "reason" in end or "nodes" in end
     return Block(int(end["line"]), copies, end.get("reason"),
@@ -109,7 +113,10 @@ def key_of(text: str, name: str) -> Key:
 def command_of(text: bytes) -> Command | None:
     """The command on a line of a script, if Python can read it as one."""
     try:
-        value = json.loads(text)
+        if text.startswith(b'{"'):  # and so no other encoding, which json.loads looks for
+            value = read_json(text.decode("utf-8", "surrogatepass"))
+        else:
+            value = json.loads(text)
     except (ValueError, RecursionError):
         return None
     return value if isinstance(value, dict) else None

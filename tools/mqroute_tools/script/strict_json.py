@@ -30,6 +30,10 @@ def whole(text: str) -> int | float:
     return -0.0 if text == "-0" else int(text)
 
 
+# of a line without an escape that may be half of a surrogate pair
+read_plain = json.JSONDecoder(parse_constant=constant, parse_float=real, parse_int=whole).decode
+
+
 def has_half(value: Any) -> bool:
     """Whether a text has half of a surrogate pair; those of an object have
     been looked at by `members`."""
@@ -65,6 +69,8 @@ def read(line: bytes) -> Any:
         text = line.decode("utf-8")
         if line.count(b"[") + line.count(b"{") > MOST_NESTING and nesting(text) > MOST_NESTING:
             raise NoJson(f"nested deeper than {MOST_NESTING}")
+        if b"\\u" not in line:
+            return read_plain(text)
         return whole_texts(json.loads(text, parse_constant=constant, parse_float=real,
                                       parse_int=whole, object_pairs_hook=members))
     except UnicodeDecodeError as fault:
