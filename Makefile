@@ -6,12 +6,13 @@
 # growth of memory refused in turn.
 # package: a Debian package and an archive of the same files, in dist/, of the programs of bin/.
 # bench: measures the programs of bin/ (bench/README.md).
-# install: puts the programs of bin/ and the tools beside real brokers below PREFIX, with a man page each and completion;
-# uninstall takes them out again.
+# install: puts the programs of bin/ and the tools beside real brokers below PREFIX, with a man page each and completion, and
+# compiles the tools' modules for PYTHON, where there is one (PYTHON= compiles none); uninstall takes all of it out again.
 .PHONY: all run check test package bench install uninstall mended programs
 
 PREFIX ?= /usr/local
 INSTALLED = $(DESTDIR)$(PREFIX)
+PYTHON ?= python3
 
 # The tools beside real brokers, each installed as mqroute-NAME, tools.py with all of them as subcommands; they import what
 # stands in tools/mqroute_tools.
@@ -93,6 +94,9 @@ install: programs
 	    ln -sf ../lib/mqroute/$$tool.py $(INSTALLED)/bin/$$name; \
 	    install -m 644 docs/mqroute-tools.bash-completion $(COMPLETIONS)/$$name; \
 	done
+	if command -v "$(PYTHON)" > /dev/null; then \
+	    umask 022 && $(PYTHON) -m compileall -q -s "$(DESTDIR)" $(INSTALLED)/lib/mqroute/mqroute_tools $(INSTALLED)/lib/mqroute/mqroute.py; \
+	fi
 
 uninstall:
 	for name in mqroute mqroute-acl $(TOOL_NAMES); do \

@@ -17,7 +17,8 @@ root=$scratch/mqroute-$version
 usr=$root/usr
 doc=$usr/share/doc/mqroute
 
-make --no-print-directory -s install DESTDIR="$root" PREFIX=/usr
+# Which Python will read the modules isn't known: they aren't compiled.
+make --no-print-directory -s install DESTDIR="$root" PREFIX=/usr PYTHON=
 
 # The README's sessions begin in a copy of this folder, as in a clone.
 install -d "$doc/docs" "$doc/brokers/recorded"

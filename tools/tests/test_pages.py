@@ -164,6 +164,9 @@ class Installed(unittest.TestCase):
             for name in ("mqroute", "mqroute-acl"):
                 self.assertTrue(Path(folder, f"share/man/man1/{name}.1").exists()
                                 and os.access(f"{folder}/bin/{name}", os.X_OK))
+            modules = Path(folder, "lib/mqroute/mqroute_tools")
+            compiled = [*modules.rglob("*.pyc")]
+            self.assertEqual(len(compiled), len([*modules.rglob("*.py")]))
             self.named_as_installed(folder)
             self.subcommands(folder)
             self.completed(folder)
