@@ -14,6 +14,17 @@ def connect_command(client: str, user: str | None) -> Command:
     return {"do": "connect", "client": client} | ({} if user is None else {"user": user})
 
 
+def publish(client: str, topic: str, size: int, qos: int, retain: bool) -> Command:
+    command: Command = {"do": "publish", "client": client, "topic": topic}
+    if size:
+        command["payload"] = f"{size} bytes"
+    if qos:
+        command["qos"] = qos
+    if retain:
+        command["retain"] = True
+    return command
+
+
 @dataclass
 class Client:
     user: str | None = None

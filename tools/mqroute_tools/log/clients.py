@@ -63,10 +63,17 @@ class Session:
         if found is None:
             if len(self.reasons) >= REASONS:
                 self.reasons.clear()
-            seen, inferred = (any(matches(plain_filter(f), topic) for f in names)
-                              for names in (self.filters, self.inferred))
-            found = self.reasons[topic] = SEEN if seen else INFERRED if inferred else NONE
+            found = self.reasons[topic] = (
+                SEEN if any_matches(self.filters, topic)
+                else INFERRED if any_matches(self.inferred, topic) else NONE)
         return found
+
+
+def any_matches(names: set[str], topic: str) -> bool:
+    for name in names:
+        if matches(plain_filter(name), topic):
+            return True
+    return False
 
 
 class Arrival:

@@ -50,6 +50,8 @@ class Comparison:
 
     def add_refusals(self, step: Step) -> None:
         theirs, ours = step.broker.refused, step.mqroute.refused
+        if not (theirs or ours):
+            return
         self.refused += theirs.total()
         for client, topic in sorted((theirs - ours) + (ours - theirs)):
             who = "the broker" if theirs[client, topic] else "mqroute"

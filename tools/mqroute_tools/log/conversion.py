@@ -3,23 +3,14 @@ from collections.abc import Iterable, Iterator
 from itertools import chain, islice
 from typing import BinaryIO
 
+from ..script.file_kinds import OF_MOSQUITTO
 from ..script.output import Command
 from . import mosquitto_log as log
+from .broker_state import publish
 from .clients import Arrival, Clients
 from .time_stamps import LOOKED_AT, Stamps
 
 ADDRESSES = 1_000  # new connections that are remembered until they say who they are
-
-
-def publish(client: str, topic: str, size: int, qos: int, retain: bool) -> Command:
-    command: Command = {"do": "publish", "client": client, "topic": topic}
-    if size:
-        command["payload"] = f"{size} bytes"
-    if qos:
-        command["qos"] = qos
-    if retain:
-        command["retain"] = True
-    return command
 
 
 class Converter(Clients):
@@ -37,28 +28,33 @@ class Converter(Clients):
         self.sys_topics: set[str] = set()  # below $SYS/, that clients publish
         # who sent DISCONNECT and has a will, and where the broker told the end
         self.parting: tuple[str, int] | None = None
+        self.is_log = False  # whether a line of mosquitto's was read
         self.silent = False  # the broker tells neither who connects nor whose connection ends
 
     # -- reading
 
     def read(self, raw: bytes) -> None:
         self.place += 1
-        self.commands = []
+        if self.commands:
+            self.commands = []
         try:
             line = raw.decode("utf-8")
         except UnicodeDecodeError:
             self.lost(raw.decode("utf-8", "replace"), len(raw))
             return
         time, text = self.stamps.split(line)
-        self.end_after_disconnect(text)
-        if not text.startswith("Sending PUBLISH to "):
+        if self.parting is not None:
+            self.end_after_disconnect(text)
+        if self.ended is not None and not text.startswith(log.COPY):
             self.ended = None
-        if time is not None:
+        if time is not None and time != self.time:
             if self.time is not None and time < self.time:
                 self.notes.add("times went back: the script's clock stands still there",
                                f"line {self.place}: {line}")
             self.time = time
-        if text and not (self.granted(text) or self.known(text)):
+        if not self.is_log:
+            self.is_log = OF_MOSQUITTO.match(text) is not None
+        if text and not (self.asked is not None and self.granted(text) or self.known(text)):
             self.lost(line, len(raw))
 
     def finish(self) -> None:
@@ -80,17 +76,24 @@ class Converter(Clients):
             "lines can be read in two ways; the first was taken", f"line {self.place}: {text}")
 
     def known(self, text: str) -> bool:
-        """Whether the line is of a known kind; it is then worked in."""
-        if text.startswith("Sending "):
-            return self.sending(text[8:])
+        """Whether the line is of a known kind; it is then worked in. Frequent ones come first."""
+        if text.startswith(log.COPY):
+            sent = log.read_publish(text[len(log.COPY):], self.connected)
+            if sent:
+                self.copied(sent)
+            return sent is not None
+        if text.startswith(log.ACKNOWLEDGING):
+            return True
         if text.startswith("Received PUBLISH from "):
             return self.publish(text[22:], routed=True)
+        if text.startswith("Denied PUBLISH from "):
+            return self.publish(text[20:], routed=False)
+        if text.startswith("Sending "):
+            return self.sending(text[8:])
         if text.startswith("Received "):
             return self.received(text[9:])
         if text.startswith("\t"):
             return self.listed(text[1:])
-        if text.startswith("Denied PUBLISH from "):
-            return self.publish(text[20:], routed=False)
         if text.startswith("New "):
             return self.arriving(text)
         if text.startswith("Will message specified ") and self.arrival:
@@ -128,11 +131,6 @@ class Converter(Clients):
         return bridge is not None or log.BRIDGE_SENDS.match(text) is not None
 
     def sending(self, text: str) -> bool:
-        if text.startswith("PUBLISH to "):
-            sent = log.read_publish(text[11:], self.connected)
-            if sent:
-                self.copied(sent)
-            return sent is not None
         if text.startswith("CONNACK to "):
             return self.connack(text[11:])
         if text.startswith(("SUBACK to ", "UNSUBACK to ")):
@@ -140,16 +138,19 @@ class Converter(Clients):
             self.packet = None
         return True
 
-    def copied(self, sent: log.Publish) -> None:
-        """The broker sent a copy."""
-        if self.of_own_will(sent):
-            return
+    def copied(self, sent: log.Publish) -> bool:
+        """The broker sent a copy. Whether it may be one that the script explains."""
+        if self.ended is not None and self.of_own_will(sent):
+            return False
         if sent.client not in self.connected:
             self.was_before(sent.client)
-        if sent.topic.startswith("$SYS/") and sent.topic not in self.sys_topics:
+        if not sent.topic.startswith("$SYS/"):
+            return True
+        if sent.topic not in self.sys_topics:
             self.notes.add("copies of topics under $SYS/, which the broker publishes itself, are "
                            "not in the script",
                            f"line {self.place}: {sent.client} {sent.topic}")
+        return False
 
     def of_own_will(self, sent: log.Publish) -> bool:
         """Whether the copy stands right behind the end of its client's connection: so the broker
@@ -197,6 +198,11 @@ class Converter(Clients):
             return False
         if found.readings > 1:
             self.doubt(text)
+        self.take(found, routed)
+        return True
+
+    def take(self, found: log.Publish, routed: bool) -> None:
+        """A client published; the broker routes it, or denies it."""
         command = publish(found.client, found.topic, found.size, found.qos, bool(found.retain))
         session = self.session(found.client)
         self.latest = (found.client, found.packet, found.qos)
@@ -209,7 +215,6 @@ class Converter(Clients):
             session.unreleased[found.packet] = command
         else:
             self.emit(self.place, command, routed)
-        return True
 
     def forget(self, client: str, packet: int) -> None:
         """The client uses a packet identifier again: the broker drops what it
@@ -363,8 +368,8 @@ class Converter(Clients):
         (client, place), self.parting = self.parting, None
         departed = self.departed.pop(client, None)
         session = departed or self.connected[client]
-        sent = (log.read_publish(text[19:], self.connected)
-                if text.startswith("Sending PUBLISH to ") else None)
+        sent = (log.read_publish(text[len(log.COPY):], self.connected)
+                if text.startswith(log.COPY) else None)
         will = session.will or {}
         copy = publish(client, sent.topic, sent.size, 0, False) if sent else {}
         if sent and all(copy.get(name) == will.get(name) for name in ("topic", "payload")):

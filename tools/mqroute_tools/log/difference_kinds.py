@@ -31,9 +31,11 @@ def greatest_retain(copies: list[Copy]) -> int:
 def own_will(step: Step, key: Key) -> bool:
     """Whether the client publishes to the topic and then leaves: so a script has the will of a
     session that is kept."""
+    gone = {"do": "disconnect", "client": key[0]}
+    if gone not in step.commands:
+        return False
     published = [at for at, c in enumerate(step.commands)
                  if c["do"] == "publish" and (c["client"], c["topic"]) == key]
-    gone = {"do": "disconnect", "client": key[0]}
     return bool(published) and any(c == gone for c in step.commands[published[-1]:])
 
 

@@ -7,9 +7,9 @@ from typing import BinaryIO
 from ..script.output import Command
 from ..script.sessions import FOREVER
 from . import mosquitto_log as log
-from .broker_state import UNTOLD, Client, State
+from .broker_state import UNTOLD, Client, State, publish
 from .clients import NONE, Arrival, Session
-from .conversion import Converter, placed_commands, publish
+from .conversion import Converter, placed_commands
 from .inferred_subscriptions import Evidence, Inferred, Published
 
 ALIKE = 100  # topics that are looked at for a publisher
@@ -121,12 +121,12 @@ class Observer(Converter):
 
     # -- what shows
 
-    def copied(self, sent: log.Publish) -> None:
+    def copied(self, sent: log.Publish) -> bool:
         if self.of_own_will(sent):
-            return
+            return False
         session = self.session(sent.client)
         if sent.dup or sent.topic.startswith("$SYS/"):
-            return
+            return False
         live = self.last["do"] == "publish" and self.last["topic"] == sent.topic
         explained = session.reason(sent.topic) != NONE
         if sent.retain and not live:
@@ -137,6 +137,7 @@ class Observer(Converter):
             waited = self.last["do"] == "connect" and self.last["client"] == sent.client
             self.evidence[sent.client].add(sent, self.published.times_of(sent.topic),
                                            self.last if live else None, explained, not waited)
+        return True
 
     def subscribe(self, place: int, client: str, name: str, qos: int) -> None:
         super().subscribe(place, client, name, qos)

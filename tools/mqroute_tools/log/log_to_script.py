@@ -11,17 +11,26 @@ or a file.
 import argparse
 import json
 import sys
+from functools import lru_cache
 from typing import BinaryIO
 
 from ..common.files import STDIN, keep_apart, refuse_stdin_twice, whole
 from ..common.messages import counted, tell
+from ..script.output import Command
 from .clients import INFERRED, NONE, SEEN
 from .conversion import placed_commands
 from .log_files import Logs
 from .options import add_log_options
 from .script_writer import Writer, writer
 
-text_of = json.JSONEncoder(ensure_ascii=False, separators=(",", ":")).encode
+# of a value, as JSON; most names and topics of a log come again and again
+value_text = lru_cache(1 << 14, typed=True)(json.JSONEncoder(ensure_ascii=False).encode)
+
+
+def text_of(command: Command) -> str:
+    """A command as a line of a script, without its end."""
+    fields = [f'"{name}":{value_text(value)}' for name, value in command.items()]
+    return f"{{{','.join(fields)}}}"
 
 
 def write_script(found: Writer, logs: Logs, out: BinaryIO) -> int:

@@ -1,26 +1,51 @@
 """What the lines of a mosquitto 2.0 log say (log_type all), one event a line."""
 import re
 from collections.abc import Container, Iterator
-from typing import BinaryIO
+from typing import BinaryIO, NamedTuple
 
 LINE_MAX = 65_536  # far over what mosquitto writes: it cuts its lines at 1,000 bytes
 CUT_AT = 999
 
 
+def blocks(stream: BinaryIO) -> Iterator[bytes]:
+    """Lines with their ends, many at a time; of one that is far too long the beginning."""
+    rest = b""
+    while piece := stream.read(LINE_MAX):
+        block = rest[:LINE_MAX] + piece
+        end = block.rfind(b"\n") + 1
+        rest = block[end:]
+        if end:
+            yield block[:end]
+    if rest:
+        yield rest + b"\n"
+
+
+def cut(line: bytes) -> bytes:
+    return line[:LINE_MAX].rstrip(b"\r")
+
+
+def lines_of(block: bytes) -> list[bytes]:
+    lines = block[:-1].split(b"\n")
+    if b"\r" in block or max(map(len, lines)) > LINE_MAX:
+        return list(map(cut, lines))
+    return lines
+
+
 def raw_lines(stream: BinaryIO) -> Iterator[bytes]:
     """The lines without their ends; of one that is far too long only the beginning."""
-    while piece := stream.readline(LINE_MAX):
-        rest = piece
-        while not rest.endswith(b"\n") and len(rest) == LINE_MAX:
-            rest = stream.readline(LINE_MAX)
-        yield piece.rstrip(b"\r\n")
+    for block in blocks(stream):
+        yield from lines_of(block)
 
 
 # The client id is free text, and so may look like any other part of a line. Each form below is read
 # with its fixed words at both ends; where more than one reading is left, the clients that are
 # connected decide.
 
+# where a line has one head
+ONE_PUBLISH = re.compile(
+    r"(.*) \(d([01]), q([0-2]), r([01]), m(\d+), '(.*)', \.\.\. \((\d+) bytes\)\)")
 PUBLISH_HEAD = re.compile(r" \(d([01]), q([0-2]), r([01]), m(\d+), '")
+COPY = "Sending PUBLISH to "
 PUBLISH_END = re.compile(r"', \.\.\. \((\d+) bytes\)\)$")
 CONNECTED = re.compile(r" \(p(\d+), c([01]), k\d+(?:, u'(.*)')?\)\.$")
 CONNACK = re.compile(r"(.*) \(([01]), (\d+)\)$")
@@ -40,6 +65,10 @@ ENDS = tuple(re.compile(p) for p in (
     r"Bad socket read/write on client (.*): [A-Za-z0-9 ,/'()-]+$",
     r"Socket error on client (.*), disconnecting\.$",
 ))
+# Lines of which a script has nothing, and a log many.
+ACKNOWLEDGING = (
+    "Sending PUBACK to ", "Sending PUBREC to ", "Sending PUBCOMP to ",
+    "Received PUBACK from ", "Received PUBREC from ", "Received PUBCOMP from ")
 # Lines that tell nothing a script has.
 PASSED_OVER = (
     "Sending ", "New connection from ", "No will message specified.",
@@ -70,20 +99,24 @@ EXPIRED = re.compile(r"Expiring client (.*) due to timeout\.$")
 TAKEN_OVER = re.compile(r"Client (.*) already connected, closing old connection\.$")
 
 
-class Publish:
+class Publish(NamedTuple):
     """What a line tells of a PUBLISH packet, received, denied or sent."""
-    __slots__ = ("client", "dup", "qos", "retain", "packet", "topic", "size", "readings")
-
-    def __init__(self, client: str, head: re.Match[str], topic: str, size: int,
-                 readings: int) -> None:
-        self.client, self.topic, self.size = client, topic, size
-        # in how many ways the line can be read, by the clients that are connected
-        self.readings = readings
-        self.dup, self.qos, self.retain, self.packet = (int(head[i]) for i in (1, 2, 3, 4))
+    client: str
+    dup: int
+    qos: int
+    retain: int
+    packet: int
+    topic: str
+    size: int
+    readings: int = 1  # in how many ways it can be read, by the clients that are connected
 
 
 def read_publish(text: str, known: Container[str]) -> Publish | None:
     """`text` is what stands after `PUBLISH from ` or `PUBLISH to `."""
+    one = ONE_PUBLISH.fullmatch(text) if text.count(" (d") == 1 else None
+    if one:
+        client, dup, qos, retain, packet, topic, size = one.groups()
+        return Publish(client, int(dup), int(qos), int(retain), int(packet), topic, int(size))
     end = PUBLISH_END.search(text, text.rfind("'"))
     if end is None:
         return None
@@ -95,7 +128,9 @@ def read_publish(text: str, known: Container[str]) -> Publish | None:
         heads = [h for h in PUBLISH_HEAD.finditer(text) if h.end() <= end.start()]
         likely = [h for h in heads if text[:h.start()] in known] or heads
         head, readings = likely[0], len(likely)
-    return Publish(text[:head.start()], head, text[head.end():end.start()], int(end[1]), readings)
+    dup, qos, retain, packet = map(int, head.groups())
+    return Publish(text[:head.start()], dup, qos, retain, packet, text[head.end():end.start()],
+                   int(end[1]), readings)
 
 
 def ended_clients(text: str, *known: Container[str]) -> list[str]:

@@ -5,7 +5,7 @@ from typing import TypeVar
 
 from ..common.exit_status import Fault
 from ..common.files import at, open_input
-from ..script.file_kinds import OF_MOSQUITTO, kind
+from ..script.file_kinds import kind
 from ..script.output import Command, is_blank
 from ..script.sessions import FOREVER
 from . import mosquitto_log as log
@@ -29,7 +29,6 @@ class Writer(Converter):
         self.topics: set[str] = set(begins.state.retained)  # that the script publishes
         self.explained = [0, 0, 0]
         self.logs: Logs | None = None
-        self.is_log = False  # whether a line of mosquitto's was read
         self.know(begins.state, begins.inferred)
         self.tell_before()
 
@@ -73,10 +72,6 @@ class Writer(Converter):
         super().come_for_will(place, command)
         self.for_will = False
 
-    def known(self, text: str) -> bool:
-        self.is_log = self.is_log or OF_MOSQUITTO.match(text) is not None
-        return super().known(text)
-
     def finish(self) -> None:
         super().finish()
         if self.logs and not self.is_log:
@@ -108,12 +103,14 @@ class Writer(Converter):
         if will:
             self.topics.add(will["topic"])
 
-    def copied(self, sent: log.Publish) -> None:
-        super().copied(sent)
-        session = self.connected.get(sent.client)
-        if not (sent.dup or sent.topic.startswith("$SYS/") or self.of_own_will(sent)):
+    def copied(self, sent: log.Publish) -> bool:
+        if not super().copied(sent):
+            return False
+        if not sent.dup:
+            session = self.connected.get(sent.client)
             known = session is not None and sent.topic in self.topics
             self.explained[session.reason(sent.topic) if session and known else NONE] += 1
+        return True
 
     def unsubscribe(self, place: int, client: str, name: str) -> None:
         super().unsubscribe(place, client, name)

@@ -6,8 +6,9 @@ from ..common.exit_status import Fault
 from ..script.output import Block, Command, blocks, by_key, misfit, read_json
 from ..script.topics import plain_filter
 from . import mosquitto_log as log
+from .broker_state import publish
 from .clients import Arrival
-from .conversion import placed_commands, publish
+from .conversion import placed_commands
 from .difference_kinds import BROKERS_TOPIC, CUT_OFF, LOGGED_WILL, OWN_WILL, TAKEN_WILL
 from .held_back import Flight
 from .inference import Beginning
@@ -32,7 +33,22 @@ class Watcher(Writer):
     def known(self, text: str) -> bool:
         self.acknowledged, self.behind = "", self.acknowledged
         self.sent_to, self.was_sent_to = "", self.sent_to
+        if text.startswith(log.ACKNOWLEDGING):
+            self.acknowledging(text)
+            return True
         return super().known(text)
+
+    def acknowledging(self, text: str) -> None:
+        if text.startswith("Sending "):
+            answered = log.ANSWERED.match(text[8:])
+            if answered:
+                self.sent_to = answered[2]
+            return
+        found = log.ACKNOWLEDGED.match(text[9:])
+        if found:
+            self.acknowledged = found[1]
+            if self.flight.acknowledge(found[1], int(found[2])):
+                self.events.append(Event(self.place, found[1]))
 
     def closed(self, client: str) -> None:
         if self.was_sent_to == client:
@@ -40,11 +56,6 @@ class Watcher(Writer):
         super().closed(client)
 
     def received(self, text: str) -> bool:
-        found = log.ACKNOWLEDGED.match(text)
-        if found:
-            self.acknowledged = found[1]
-            if self.flight.acknowledge(found[1], int(found[2])):
-                self.events.append(Event(self.place, found[1]))
         release = log.RELEASE.match(text[12:]) if text.startswith("PUBREL from ") else None
         if release and release[1] in self.connected:
             self.renamed = int(release[2]) in self.connected[release[1]].renamed
@@ -52,16 +63,15 @@ class Watcher(Writer):
 
     def sending(self, text: str) -> bool:
         found = log.ANSWERED.match(text)
-        if found and found[1] == "PUBREL":
-            self.flight.add(found[2], int(found[3]))
         if found:
+            self.flight.add(found[2], int(found[3]))
             self.sent_to = found[2]
         elif text.startswith("SUBACK to "):
             self.sent_to = text[10:]
         return super().sending(text)
 
-    def copied(self, sent: log.Publish) -> None:
-        super().copied(sent)
+    def copied(self, sent: log.Publish) -> bool:
+        counts = super().copied(sent)
         released = self.behind == sent.client
         if released:
             self.acknowledged = sent.client
@@ -72,6 +82,7 @@ class Watcher(Writer):
             self.events.append(Event(self.place, sent.client, sent, released, self.apart(sent)))
         if sent.qos:
             self.flight.add(sent.client, sent.packet, released)
+        return counts
 
     def apart(self, sent: log.Publish) -> str:
         """The kind of a copy that no script gives: the broker's topics, the receiver's own will."""
@@ -84,9 +95,9 @@ class Watcher(Writer):
             return TAKEN_WILL
         return OWN_WILL if session and is_of(sent, session.asked) else ""
 
-    def publish(self, text: str, routed: bool) -> bool:
-        self.denied = None if routed else log.read_publish(text, self.connected)
-        return super().publish(text, routed)
+    def take(self, found: log.Publish, routed: bool) -> None:
+        self.denied = None if routed else found
+        super().take(found, routed)
 
     def connect(self, arrival: Arrival, client: str, user: str | None, clean: bool, protocol: int,
                 present: bool) -> None:
@@ -109,8 +120,11 @@ def steps(watcher: Watcher, streams: Iterable[BinaryIO]) -> Iterator[Step]:
     def close(step: Step | None, end: int | None) -> None:
         if step is None:
             return
-        step.events = [e for e in watcher.events if end is None or e.place < end]
-        watcher.events = [e for e in watcher.events if end is not None and e.place >= end]
+        found, watcher.events = watcher.events, []
+        if end is not None and found and found[-1].place >= end:
+            watcher.events = [e for e in found if e.place >= end]
+            found = [e for e in found if e.place < end]
+        step.events = found
         step.flying = watcher.flight.flying()
         receivers = step.flying.keys() | {event.client for event in step.events}
         step.old_protocol = receivers & watcher.old_protocol

@@ -7,7 +7,7 @@ from ..script.output import Command, Key
 from .mosquitto_log import Publish
 
 
-@dataclass(frozen=True, order=True)
+@dataclass(order=True, slots=True)
 class Copy:
     qos: int
     retain: int

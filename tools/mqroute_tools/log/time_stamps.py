@@ -28,10 +28,13 @@ class Stamps:
         self.others = 0  # lines of other programs
         self.last: tuple[str, int | None] = ("", None)
         self.prefix_time: int | None = None
+        self.start = ""  # the last stamp, where it stands alone before the text: most lines have it
 
     def decide(self, lines: Sequence[str]) -> None:
         """Finds the form by the first lines of a file: the first of all may be cut, or
         begin like a stamp by chance."""
+        self.start = ""
+
         def most(pattern: re.Pattern[str], texts: Sequence[str]) -> bool:
             return 2 * sum(1 for t in texts if pattern.match(t)) > len(texts)
         self.prefixed = most(PREFIX, lines)
@@ -47,6 +50,8 @@ class Stamps:
     def split(self, line: str) -> tuple[int | None, str]:
         """The line's time in seconds, if it has one, and the line without it. Of
         another program's line no text."""
+        if self.start and line.startswith(self.start):
+            return self.last[1], line[len(self.start):]
         if not self.prefixed:
             return self.own(line)
         found = PREFIX.match(line)
@@ -73,6 +78,7 @@ class Stamps:
             if seconds is None:
                 return None, line
             self.last = (stamp, seconds)
+            self.start = f"{stamp}: " if stamp and not (self.form or self.prefixed) else ""
         return self.last[1], text
 
     def seconds(self, stamp: str) -> int | None:

@@ -9,6 +9,8 @@ def plain_filter(name: str) -> str:
 
 def matches(name: str, topic: str) -> bool:
     """Whether a filter that isn't shared matches a topic."""
+    if "+" not in name and "#" not in name:
+        return name == topic
     if topic.startswith("$") and not name.startswith("$"):
         return False
     wanted, levels = name.split("/"), topic.split("/")
