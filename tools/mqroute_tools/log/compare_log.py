@@ -6,12 +6,12 @@ Exit status: 0 none differs; 1 some do; 2 usage, a file, or an output that isn't
 """
 import argparse
 
-from ..common.files import keep_apart, refuse_stdin_twice
+from ..common.files import STDIN, keep_apart, plain_file, refuse_stdin_twice
 from ..common.messages import counted, tell
 from .comparison import Comparison
 from .log_files import Logs
 from .options import add_log_options
-from .script_writer import writer
+from .script_writer import read_logs
 from .step_reader import Watcher, answered, steps
 
 
@@ -37,7 +37,9 @@ def run(options: argparse.Namespace) -> int:
     refuse_stdin_twice(files)
     keep_apart(files)
     logs = Logs(options.log, not options.no_inference, options.time_format)
-    found = compare(writer(Watcher, options, logs), logs, options.output)
+    is_kept = options.output != STDIN and plain_file(options.output) is not None
+    _, found = read_logs(Watcher, options, logs,
+                         lambda watcher: compare(watcher, logs, options.output), again=is_kept)
     lines = found.lines()
     for line in lines:
         print(line)

@@ -28,6 +28,7 @@ class Beginning:
     ended: set[int] = field(default_factory=set)
     nameless: set[str] = field(default_factory=set)  # clients whose user name the log doesn't have
     earlier: set[int] = field(default_factory=set)  # lines that end a connection taken over
+    fresh: bool = False  # nothing in the log is to be older than its first line
 
 
 class Observer(Converter):

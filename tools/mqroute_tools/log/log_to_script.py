@@ -10,9 +10,11 @@ or a file.
 """
 import argparse
 import json
+import shutil
 import sys
+import tempfile
 from functools import lru_cache
-from typing import BinaryIO
+from typing import IO
 
 from ..common.files import STDIN, keep_apart, refuse_stdin_twice, whole
 from ..common.messages import counted, tell
@@ -21,7 +23,7 @@ from .clients import INFERRED, NONE, SEEN
 from .conversion import placed_commands
 from .log_files import Logs
 from .options import add_log_options
-from .script_writer import Writer, writer
+from .script_writer import Writer, read_logs
 
 # of a value, as JSON; most names and topics of a log come again and again
 value_text = lru_cache(1 << 14, typed=True)(json.JSONEncoder(ensure_ascii=False).encode)
@@ -33,12 +35,17 @@ def text_of(command: Command) -> str:
     return f"{{{','.join(fields)}}}"
 
 
-def write_script(found: Writer, logs: Logs, out: BinaryIO) -> int:
-    """Writes the commands of the logs, and gives how many."""
-    written = 0
-    for written, (_, command) in enumerate(placed_commands(found, logs.streams(found)), 1):
-        out.write(text_of(command).encode("utf-8") + b"\n")
-    return written
+def write_script(options: argparse.Namespace, logs: Logs, out: IO[bytes],
+                 follow: bool = False) -> tuple[Writer, int]:
+    """Writes the commands of the logs to a file of its own; gives what read them, and how many."""
+    def write(found: Writer) -> int:
+        out.seek(0)
+        out.truncate()
+        written = 0
+        for written, (_, command) in enumerate(placed_commands(found, logs.streams(found)), 1):
+            out.write(text_of(command).encode("utf-8") + b"\n")
+        return written
+    return read_logs(Writer, options, logs, write, follow)
 
 
 def sum_up(found: Writer, logs: Logs, written: int) -> None:
@@ -68,8 +75,10 @@ def run(options: argparse.Namespace) -> int:
     refuse_stdin_twice(files)
     keep_apart(files, {"--state": options.state})
     logs = Logs(options.log, not options.no_inference, options.time_format)
-    found = writer(Writer, options, logs, follow=bool(options.state))
-    written = write_script(found, logs, sys.stdout.buffer)
+    with tempfile.TemporaryFile() as script:
+        found, written = write_script(options, logs, script, follow=bool(options.state))
+        script.seek(0)
+        shutil.copyfileobj(script, sys.stdout.buffer)
     sys.stdout.buffer.flush()
     if found.state:
         with whole(options.state) as file:

@@ -1,6 +1,9 @@
-"""The second reading of a log: the script, with what it begins with."""
+"""The script of a log, with what it begins with: by a second reading, unless the log begins with
+the broker's start."""
 import argparse
 import json
+from collections.abc import Callable
+from contextlib import suppress
 from typing import TypeVar
 
 from ..common.exit_status import Fault
@@ -10,10 +13,15 @@ from ..script.output import Command, is_blank
 from ..script.sessions import FOREVER
 from . import mosquitto_log as log
 from .broker_state import UNTOLD, State
-from .clients import NONE
+from .clients import MQTT_3_1, NONE, Arrival
+from .connections import connections
 from .conversion import Converter
 from .inference import Beginning, beginning
 from .log_files import Logs
+
+
+class Older(Fault):
+    """Of a log that begins with the broker's start: it shows an older session or message."""
 
 
 class Writer(Converter):
@@ -27,6 +35,7 @@ class Writer(Converter):
         self.untold = False  # whether the session that begins is kept
         self.for_will = False
         self.topics: set[str] = set(begins.state.retained)  # that the script publishes
+        self.touched: set[str] = set()  # of them, those whose retained message it sets or clears
         self.explained = [0, 0, 0]
         self.logs: Logs | None = None
         self.know(begins.state, begins.inferred)
@@ -55,6 +64,8 @@ class Writer(Converter):
         super().emit(place, command, routed)
         if command["do"] == "publish":
             self.topics.add(command["topic"])
+            if command.get("retain") and routed is not False:
+                self.touched.add(command["topic"])
         if self.state:
             for _, each in self.commands[written:]:
                 self.follow(self.state, each, routed)
@@ -71,6 +82,23 @@ class Writer(Converter):
         self.for_will = True
         super().come_for_will(place, command)
         self.for_will = False
+
+    def shows_older(self) -> None:
+        """A line tells of what was there before the log, or may do so."""
+        if self.begins.fresh:
+            raise Older
+
+    def was_before(self, client: str) -> None:
+        self.shows_older()
+        super().was_before(client)
+
+    def connect(self, arrival: Arrival, client: str, user: str | None, clean: bool, protocol: int,
+                present: bool) -> None:
+        old = self.connected.get(client) or self.away.get(client)
+        untold = old is not None and protocol == MQTT_3_1 and not clean  # whether it is resumed
+        if (present or untold) and not (old and old.kept):
+            self.shows_older()
+        super().connect(arrival, client, user, clean, protocol, present)
 
     def finish(self) -> None:
         super().finish()
@@ -110,6 +138,8 @@ class Writer(Converter):
             session = self.connected.get(sent.client)
             known = session is not None and sent.topic in self.topics
             self.explained[session.reason(sent.topic) if session and known else NONE] += 1
+            if sent.retain and sent.topic not in self.touched:
+                self.shows_older()
         return True
 
     def unsubscribe(self, place: int, client: str, name: str) -> None:
@@ -119,6 +149,7 @@ class Writer(Converter):
 
 
 Kind = TypeVar("Kind", bound=Writer)
+Result = TypeVar("Result")
 
 
 def read_state(name: str | None) -> State:
@@ -137,13 +168,28 @@ def read_state(name: str | None) -> State:
     return state
 
 
-def writer(wanted: type[Kind], options: argparse.Namespace, logs: Logs,
-           follow: bool = False) -> Kind:
-    """What reads the logs a second time."""
+def read_logs(wanted: type[Kind], options: argparse.Namespace, logs: Logs,
+              work: Callable[[Kind], Result], follow: bool = False,
+              again: bool = True) -> tuple[Kind, Result]:
+    """A writer of the logs, and what `work` makes of them by it.
+
+    Logs that begin with the broker's start are taken to show nothing older, and read once, if
+    `work` can be done `again`: it is, with another writer, where something does show it. That may
+    first lead to another fault, since the script is another one.
+    """
+    def read(begins: Beginning) -> tuple[Kind, Result]:
+        found = wanted(options.session_expiry, options.time_format, begins)
+        found.logs = logs
+        found.start_with(follow)
+        return found, work(found)
+
+    if options.no_inference:
+        return read(Beginning(read_state(options.begin)))
+    if again and options.begin is None:
+        fresh = connections(logs.streams(), options.time_format)
+        with suppress(Fault):
+            if fresh:
+                return read(fresh)
+        logs.starts.clear()
     state = read_state(options.begin)
-    begins = (Beginning(state) if options.no_inference
-              else beginning(logs.streams(), options.time_format, state))
-    found = wanted(options.session_expiry, options.time_format, begins)
-    found.logs = logs
-    found.start_with(follow)
-    return found
+    return read(beginning(logs.streams(), options.time_format, state))

@@ -10,7 +10,6 @@ from ..common.files import GZIP, STDIN, open_input, plain_file
 from ..log.log_files import Logs
 from ..log.log_to_script import sum_up, write_script
 from ..log.options import NAMES
-from ..log.script_writer import Writer, writer
 from ..script.file_kinds import HEAD, kind
 from .kept_folder import SCRIPT
 
@@ -85,9 +84,8 @@ def made(options: argparse.Namespace, sources: list[Source], folder: Path,
     copied = {one.name: one.path for one in sources}
     logs = Logs([one.name for one in sources], not options.no_inference, options.time_format,
                 copied)
-    found = writer(Writer, options, logs)
     with open(folder / SCRIPT, "xb") as out:
-        written = write_script(found, logs, out)
+        found, written = write_script(options, logs, out)
     before_notes()
     sum_up(found, logs, written)
     return Script("the script of " + ", ".join(options.source), str(folder / SCRIPT), False, True)

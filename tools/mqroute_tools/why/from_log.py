@@ -6,8 +6,9 @@ from ..common.tables import shown
 from ..log.log_files import Logs
 from ..log.log_to_script import text_of
 from ..log.conversion import placed_commands
-from ..log.script_writer import Writer, writer
+from ..log.script_writer import Writer, read_logs
 from ..log.time_stamps import Stamps
+from ..script.output import Command
 from .lines import Question, Script
 
 Found = tuple[int, int, int]  # a publish: its time, its line in the script, its place in the log
@@ -16,13 +17,8 @@ Found = tuple[int, int, int]  # a publish: its time, its line in the script, its
 def questions(options: argparse.Namespace) -> list[Question]:
     """Of the publishes of the topic at the time."""
     logs = Logs(options.log, not options.no_inference, options.time_format)
-    found = writer(Writer, options, logs)
-    lines, commands, publishes = [], [], []
-    for place, command in placed_commands(found, logs.streams(found)):
-        lines.append(text_of(command).encode("utf-8") + b"\n")
-        commands.append(command)
-        if command.get("topic") == options.topic and found.time is not None:
-            publishes.append((found.time, len(lines), place))
+    found, (lines, commands, publishes) = read_logs(
+        Writer, options, logs, lambda reader: converted(reader, logs, options.topic))
     name = ", ".join(options.log)
     script = Script(f"the script of {name}", lines, list(commands))
     if not publishes:
@@ -30,6 +26,19 @@ def questions(options: argparse.Namespace) -> list[Question]:
     return [Question(script, line, options.named,
                      f"{logs.where(place)} (line {line} of its script)")
             for _, line, place in at_time(publishes, moment(found.stamps, options.at), logs)]
+
+
+def converted(reader: Writer, logs: Logs, topic: str) \
+        -> tuple[list[bytes], list[Command], list[Found]]:
+    """The script, as lines and as commands, and the publishes of the topic."""
+    lines: list[bytes] = []
+    commands, publishes = [], []
+    for place, command in placed_commands(reader, logs.streams(reader)):
+        lines.append(text_of(command).encode("utf-8") + b"\n")
+        commands.append(command)
+        if command.get("topic") == topic and reader.time is not None:
+            publishes.append((reader.time, len(lines), place))
+    return lines, commands, publishes
 
 
 def moment(stamps: Stamps, text: str) -> int:
