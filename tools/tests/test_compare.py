@@ -137,7 +137,9 @@ class OfALog(unittest.TestCase):
     def test_outputs_that_are_not_of_this_log(self):
         for output in (self.OUTPUT[:-22], "", self.OUTPUT + '{"line":5,"reason":0}\n',
                        self.OUTPUT.replace('"x"', '"y"'),
-                       self.OUTPUT.replace('1,"reason":0', '1,"reason":16'), "no\n"):
+                       self.OUTPUT.replace('1,"reason":0', '1,"reason":16'), "no\n",
+                       self.OUTPUT.replace('{"line":2,"reason":0}',
+                                           '{"code":11,"line":2,"refused":"NotAuthorized"}')):
             status, out, told = self.compared([CONNECTS + PUBLISH], output)
             self.assertEqual((status, out, len(told.splitlines())), (2, "", 1), output)
 

@@ -170,6 +170,8 @@ def answered(found: Iterable[Step], name: str) -> Iterator[Step]:
 def add(step: Step, command: Command, block: Block, name: str) -> None:
     found = by_key(block.copies, name)
     why = misfit(command, block, found)
+    if block.refused == "NotAuthorized" and command["do"] != "publish":
+        why = f"{block.refused} for the command {command['do']}"
     if why:
         raise Fault(f"{name} is of another script: line {block.line} is answered with {why}")
     for key, texts in found.items():
