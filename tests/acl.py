@@ -18,20 +18,23 @@ EXAMPLE = TOP / "examples/access-list"
 # The walk-through: arguments, status, and what is written.
 WALK = [
     (["compare", "current.acl", "proposed.acl"], 1, """\
-no user name; user plc; other users  may now read        mill/notes
+no user name; user plc; other users
+  may now read        mill/notes
     current.acl      no line allows it
     proposed.acl:15  pattern read mill/notes
-no user name                         may no longer read  mill/energy
+no user name
+  may no longer read  mill/energy
     current.acl:4    topic read mill/energy/#
     proposed.acl     no line allows it
-user plc                             may now write       mill/x/x/state  x: any other level \
-that doesn't begin with $
+user plc
+  may now write       mill/<level>/<level>/state
     current.acl      no line allows it
     proposed.acl:10  topic write mill/+/+/state
 3 differences
 """),
     (["compare", "--only", "lost", "current.acl", "proposed.acl"], 1, """\
-no user name  may no longer read  mill/energy
+no user name
+  may no longer read  mill/energy
     current.acl:4  topic read mill/energy/#
     proposed.acl   no line allows it
 1 lost
@@ -40,10 +43,12 @@ no user name  may no longer read  mill/energy
      "by mqroute's own rules both lists allow the same, on every topic, to every client id and "
      "user name a broker can have\n"),
     (["why", "current.acl", "screen", "mill/energy/east"], 0, """\
+client screen, no user name, topic mill/energy/east
 may read: current.acl:4  topic read mill/energy/#
 may not write: no line allows it
 """),
     (["why", "current.acl", "press", "mill/line1/press/secret", "--user", "plc"], 0, """\
+client press, user plc, topic mill/line1/press/secret
 may not read: current.acl:13  topic deny mill/+/+/secret
 may not write: current.acl:13  topic deny mill/+/+/secret
     would be allowed by current.acl:11  topic write mill/line1/#
@@ -56,6 +61,7 @@ may not write: current.acl:13  topic deny mill/+/+/secret
 "grant":{"file":"current.acl","line":11,"text":"topic write mill/line1/#"}}
 """),
     (["why", "current.acl", "screen", "mill/energy/east", "--may", "write"], 1, """\
+client screen, no user name, topic mill/energy/east
 may read: current.acl:4  topic read mill/energy/#
 may not write: no line allows it
 """),
@@ -67,9 +73,21 @@ may not write: no line allows it
 {"file":"proposed.acl","kind":"no mark","line":15,"other":null,"text":"pattern read mill/notes",\
 "words":"a pattern line without %c and %u is for all clients alike"}
 """),
-    (["reach", "current.acl", "screen", "mill/+/east"], 0, "mill/energy/east\n"),
+    (["reach", "current.acl", "screen", "mill/+/east"], 0,
+     "client screen, no user name: mill/+/east can be sent mill/energy/east\n"),
     (["reach", "current.acl", "press", "mill/line1/#", "--user", "plc"], 1,
-     "a subscription to mill/line1/# can be sent nothing\n"),
+     "client press, user plc: mill/line1/# can be sent nothing\n"),
+    (["reach", "current.acl", "press", "mill/line1/#", "--user", "Plc"], 1,
+     "client press, user Plc: mill/line1/# can be sent nothing\n"
+     "no line names user Plc; plc?\n"),
+    (["reach", "current.acl", "--any", "mill/orders/#"], 0,
+     "any client id, no user name: mill/orders/# can be sent mill/orders/<client id>\n"
+     "    current.acl:16  pattern read mill/orders/%c\n"),
+    (["reach", "current.acl", "--any", "mill/line1/#", "--user", "plc"], 1,
+     "any client id, user plc: mill/line1/# can be sent nothing\n"),
+    (["reach", "--json", "current.acl", "--any", "mill/line1/#", "--user", "plc"], 1,
+     '{"client":null,"filter":"mill/line1/#","line":null,"made_up":[],"topic":null,'
+     '"user":"plc"}\n'),
     (["reach", "--json", "current.acl", "press", "$share/g/mill/orders/+", "--user=plc"], 0,
      '{"filter":"$share/g/mill/orders/+","topic":"mill/orders/press"}\n'),
     (["reach", "current.acl", "--script", "day.jsonl"], 1, """\
@@ -177,14 +195,14 @@ MISUSED = [
     (["why", "--may", "both", "current.acl", "c", "a"], "'both' for '--may <ACCESS>'"),
     (["compare", "--only", "new", "current.acl", "proposed.acl"], "'new' for '--only <WAY>'"),
     (["who", "--access", "all", "current.acl", "#"], "'all' for '--access <ACCESS>'"),
-    (["reach", "current.acl"], "either CLIENT and FILTER, or --script SCRIPT"),
-    (["reach", "current.acl", "c"], "either CLIENT and FILTER, or --script SCRIPT"),
+    (["reach", "current.acl"], "CLIENT and FILTER, or --any FILTER, or --script SCRIPT"),
+    (["reach", "current.acl", "c"], "CLIENT and FILTER, or --any FILTER, or --script SCRIPT"),
     (["reach", "current.acl", "c", "a", "--script", "day.jsonl"],
-     "either CLIENT and FILTER, or --script SCRIPT"),
+     "CLIENT and FILTER, or --any FILTER, or --script SCRIPT"),
     (["reach", "current.acl", "c", "--script", "day.jsonl"],
-     "either CLIENT and FILTER, or --script SCRIPT"),
+     "CLIENT and FILTER, or --any FILTER, or --script SCRIPT"),
     (["reach", "current.acl", "--script", "day.jsonl", "--user", "u"],
-     "either CLIENT and FILTER, or --script SCRIPT"),
+     "CLIENT and FILTER, or --any FILTER, or --script SCRIPT"),
     (["reach", "--script", "day.jsonl"], "<FILE>"),
     (["reach", "nowhere.acl", "--script", "day.jsonl"], f"mqroute-acl: nowhere.acl: {NO_FILE}\n"),
     (["reach", "current.acl", "--script", "nowhere.jsonl"],

@@ -130,7 +130,7 @@ asks() { # STATUS LAST_LINE ARGUMENTS..: of mqroute-acl on these lists
 
 asks 1 "1 difference" compare list longer
 asks 0 "may write: list:56  topic readwrite plant/hall-4/u2/#" why list c plant/hall-4/u2/x --user u2
-asks 0 "plant/hall-7/u9" reach list c "plant/hall-7/+/#" --user u9
+asks 0 "client c, user u9: plant/hall-7/+/# can be sent plant/hall-7/u9" reach list c "plant/hall-7/+/#" --user u9
 asks 0 "shorter: mosquitto 2.0 allows the same" lint shorter
 
 echo "$passed passed, $failed failed"

@@ -2,6 +2,7 @@
 pub(crate) mod compare;
 pub(crate) mod lint;
 pub(crate) mod reach;
+pub(crate) mod reach_any;
 pub(crate) mod remarks;
 pub(crate) mod script;
 pub(crate) mod short_topic;

@@ -93,6 +93,21 @@ pub enum Failure<'a> {
     /// As it is told: of a file that a file of expectations names.
     #[error("{0}")]
     OfNamed(String),
+    /// No line of the list is for the user.
+    #[error("mqroute-acl: {file}: no line names user {user}")]
+    NoUser {
+        file: &'a str,
+        user: &'a str,
+    },
+    /// By mosquitto's rules nothing is asked about the user.
+    #[error("mqroute-acl: user {0}: by mosquitto's rules nothing is asked about a user whose name holds /, + or #")]
+    UserMark(&'a str),
+    /// The file that is to be written is one that is read.
+    #[error("mqroute-acl: {0}: --junit would overwrite it")]
+    Overwritten(&'a str),
+    /// The file can't be written.
+    #[error("mqroute-acl: {0}: {1}")]
+    Unwritten(&'a str, io::Error),
     /// What is to be a topic is no topic name.
     #[error("mqroute-acl: {0:?} is no topic name")]
     Topic(&'a str),
@@ -145,7 +160,7 @@ impl<'a> Failure<'a> {
         ensures { result ≡ failure_status self.now }
     {
         match self {
-            Failure::Write | Failure::Memory => FAILED,
+            Failure::Write | Failure::Memory | Failure::Unwritten(..) => FAILED,
             _ => UNREADABLE,
         }
     }
@@ -155,7 +170,7 @@ impl<'a> Failure<'a> {
         ensures { (failure_status result ≡ failure_status failure.entry) ⊎ (result ≡ Failure.Memory) }
     {
         match failure {
-            Failure::Write => Failure::Write,
+            Failure::Write | Failure::Unwritten(..) => Failure::Write,
             Failure::Memory => Failure::Memory,
             other => match format!(in alloc; "{other}") {
                 Ok(text) => Failure::OfNamed(text),

@@ -1,6 +1,7 @@
 //! Answers to questions about the texts of access lists.
 #![tactic(auto)]
 
+mod asked;
 mod cases;
 mod commands;
 mod failure;
@@ -13,6 +14,7 @@ mod printing;
 pub use commands::compare::{Changes, find_changes, tell_changes};
 pub use commands::lint::{Remarks, add_lint, find_remarks};
 pub use commands::reach::{find_topic, tell_reach};
+pub use commands::reach_any::{find_any, tell_reach_any};
 pub use commands::script::{find_subscriptions, tell_subscriptions};
 pub use commands::who::{find_permissions, tell_who};
 pub use commands::why::{Explanation, explain, tell_why};

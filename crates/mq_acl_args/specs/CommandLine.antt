@@ -70,6 +70,14 @@ only_option = option (codes "only")
 abbrev pub script_option : Rule
 script_option = option (codes "script")
 
+-- `--any FILTER`
+abbrev pub any_option : Rule
+any_option = option (codes "any")
+
+-- `--junit JUNIT`
+abbrev pub junit_option : Rule
+junit_option = option (codes "junit")
+
 -- `compare OLD NEW [--only WAY] [--steps N] [--rules RULES] [--json]`
 abbrev pub compare : App
 compare =
@@ -90,13 +98,13 @@ lint =
     with_rules (new_app (codes "lint"))
     (several_arguments (codes "FILE") ∷ json_flag ∷ steps_option ∷ rules_option ∷ [])
 
--- `reach FILE [CLIENT] [FILTER] [--user NAME] [--script SCRIPT] [--rules RULES] [--json]`
+-- `reach FILE [CLIENT] [FILTER] [--any FILTER] [--user NAME] [--script SCRIPT] [--steps N] [--rules RULES] [--json]`
 abbrev pub reach : App
 reach =
     with_rules (new_app (codes "reach"))
     (required_argument (codes "FILE") ∷ json_flag ∷ optional_argument (codes "CLIENT")
-    ∷ optional_argument (codes "FILTER") ∷ user_option ∷ script_option ∷ rules_option
-    ∷ [])
+    ∷ optional_argument (codes "FILTER") ∷ any_option ∷ user_option ∷ script_option
+    ∷ steps_option ∷ rules_option ∷ [])
 
 -- `who FILE FILTER [--access ACCESS] [--only USERS] [--steps N] [--rules RULES] [--json]`
 abbrev pub who : App
@@ -105,12 +113,12 @@ who =
     (required_argument (codes "FILE") ∷ json_flag ∷ required_argument (codes "FILTER")
     ∷ access_option ∷ only_option ∷ steps_option ∷ rules_option ∷ [])
 
--- `test EXPECTED [LIST..] [--steps N] [--rules RULES] [--json]`
+-- `test EXPECTED [LIST..] [--junit JUNIT] [--steps N] [--rules RULES] [--json]`
 abbrev pub test : App
 test =
     with_rules (new_app (codes "test"))
     (required_argument (codes "EXPECTED") ∷ json_flag ∷ any_arguments (codes "LIST")
-    ∷ steps_option ∷ rules_option ∷ [])
+    ∷ junit_option ∷ steps_option ∷ rules_option ∷ [])
 
 -- a command that wants a subcommand
 abbrev pub wanting : App → App
@@ -133,9 +141,10 @@ pub data Asked : Type 0 where
   Why : (file : Text) (client : ClientAsked) (topic : Text) (may : Option Direction) → Asked
   Lint : (files : List Text) → Asked
   Reach : (file : Text) (client : ClientAsked) (filter : Text) → Asked
+  ReachAny : (file : Text) (user : Option Text) (wanted : Text) → Asked
   ReachAll : (file script : Text) → Asked
   Who : (file wanted : Text) (access : Option Direction) (only : Option Text) → Asked
-  Test : (expected : Text) (lists : List Text) → Asked
+  Test : (expected : Text) (lists : List Text) (junit : Option Text) → Asked
 
 abbrev pub way_named : Text → Option Way
 way_named word =
@@ -186,9 +195,19 @@ abbrev pub all_asked : (file id filter user : Option Text) → (script : Text) �
 all_asked (Some file) None None None script = Some (ReachAll file script)
 all_asked file id filter user script = None
 
-abbrev pub reach_asked : (file id filter user script : Option Text) → Option Asked
-reach_asked file id filter user None = one_asked file id filter user
-reach_asked file id filter user (Some script) = all_asked file id filter user script
+-- of clients with any id: neither client nor filter nor script stands beside it
+abbrev pub any_asked : (file id filter user script : Option Text) → (wanted : Text) → Option Asked
+any_asked (Some file) None None user None wanted = Some (ReachAny file user wanted)
+any_asked file id filter user script wanted = None
+
+-- of one subscription, or of those of a script
+abbrev pub some_asked : (file id filter user script : Option Text) → Option Asked
+some_asked file id filter user None = one_asked file id filter user
+some_asked file id filter user (Some script) = all_asked file id filter user script
+
+abbrev pub reach_asked : (file id filter user script any : Option Text) → Option Asked
+reach_asked file id filter user script None = some_asked file id filter user script
+reach_asked file id filter user script (Some wanted) = any_asked file id filter user script wanted
 
 abbrev pub why_asked_by : List Row → Option Asked
 why_asked_by rows =
@@ -200,6 +219,7 @@ abbrev pub reach_asked_by : List Row → Option Asked
 reach_asked_by rows =
     reach_asked (first_of (codes "FILE") rows) (first_of (codes "CLIENT") rows)
     (first_of (codes "FILTER") rows) (first_of (codes "user") rows) (first_of (codes "script") rows)
+    (first_of (codes "any") rows)
 
 abbrev pub who_asked : (file wanted : Option Text) → Option (Option Direction)
     → (only : Option Text) → Option Asked
@@ -212,13 +232,15 @@ who_asked_by rows =
     (access_asked (codes "access") rows) (first_of (codes "only") rows)
 
 -- of a file of expectations, and the lists that are given, if some are
-abbrev pub test_asked : (expected : Option Text) → (lists : Option (List Text)) → Option Asked
-test_asked (Some expected) lists = Some (Test expected (unwrap_or lists []))
-test_asked None lists = None
+abbrev pub test_asked : (expected : Option Text) → (lists : Option (List Text))
+    → (junit : Option Text) → Option Asked
+test_asked (Some expected) lists junit = Some (Test expected (unwrap_or lists []) junit)
+test_asked None lists junit = None
 
 abbrev pub test_asked_by : List Row → Option Asked
 test_asked_by rows =
     test_asked (first_of (codes "EXPECTED") rows) (all_of (codes "LIST") rows)
+    (first_of (codes "junit") rows)
 
 abbrev pub asked : Text → List Row → Option Asked
 asked name rows =
@@ -264,11 +286,13 @@ question_view (asks.Why file client topic may) =
     Why file.now (client_view client) topic.now may
 question_view (asks.Lint files) = Lint (map (λ file. file.now) files.items)
 question_view (asks.Reach file client filter) = Reach file.now (client_view client) filter.now
+question_view (asks.ReachAny file user wanted) =
+    ReachAny file.now (option_copied user) wanted.now
 question_view (asks.ReachAll file script) = ReachAll file.now script.now
 question_view (asks.Who file wanted selection) =
     Who file.now wanted.now selection.access (option_copied selection.only)
-question_view (asks.Test expected lists) =
-    Test expected.now (map (λ file. file.now) lists.items)
+question_view (asks.Test expected lists junit) =
+    Test expected.now (map (λ file. file.now) lists.items) (option_copied junit)
 
 -- the values of the subcommand
 abbrev pub values_of : Option (Text × List Row) → List Row
@@ -309,9 +333,10 @@ files_of (Compare old new only) = old ∷ new ∷ []
 files_of (Why file client topic may) = file ∷ []
 files_of (Lint files) = files
 files_of (Reach file client filter) = file ∷ []
+files_of (ReachAny file user wanted) = file ∷ []
 files_of (ReachAll file script) = file ∷ script ∷ []
 files_of (Who file wanted access only) = file ∷ []
-files_of (Test expected lists) = expected ∷ lists
+files_of (Test expected lists junit) = expected ∷ lists
 
 -- no more than one of them is standard input
 abbrev pub ReadsInputOnce : Asked → Type 0

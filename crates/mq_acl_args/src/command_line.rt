@@ -10,20 +10,22 @@ ghost use Rattle.mq_acl_args.specs.CommandLine.{asked_by, AreGiven, CanNotBeAske
 ghost use Rattle.mq_acl_args.specs.CommandLine.{IsFaultOf};
 
 use crate::help::{
-    ABOUT, ACCESS_HELP, AFTER_HELP, CLIENT_HELP, COMPARE_ABOUT, COMPARE_AFTER_HELP, EXPECTED_HELP,
-    FILE_HELP, FILES_HELP, FILTER_HELP, JSON_HELP, LINT_ABOUT, LINT_AFTER_HELP, LISTS_HELP,
-    MAY_HELP, NEW_HELP, OLD_HELP, ONLY_HELP, REACH_ABOUT, REACH_AFTER_HELP, RULES_HELP,
-    SCRIPT_HELP, STEPS_HELP, SUBSCRIBER_HELP, TEST_ABOUT, TEST_AFTER_HELP, TOPIC_HELP, USER_HELP,
-    WANTED_HELP, WAY_HELP, WHO_ABOUT, WHO_AFTER_HELP, WHY_ABOUT, WHY_AFTER_HELP,
+    ABOUT, ACCESS_HELP, AFTER_HELP, ANY_HELP, CLIENT_HELP, COMPARE_ABOUT, COMPARE_AFTER_HELP,
+    EXPECTED_HELP, FILE_HELP, FILES_HELP, FILTER_HELP, JSON_HELP, JUNIT_HELP, LINT_ABOUT,
+    LINT_AFTER_HELP, LISTS_HELP, MAY_HELP, NEW_HELP, OLD_HELP, ONLY_HELP, REACH_ABOUT,
+    REACH_AFTER_HELP, RULES_HELP, SCRIPT_HELP, STEPS_HELP, SUBSCRIBER_HELP, TEST_ABOUT,
+    TEST_AFTER_HELP, TOPIC_HELP, USER_HELP, WANTED_HELP, WAY_HELP, WHO_ABOUT, WHO_AFTER_HELP,
+    WHY_ABOUT, WHY_AFTER_HELP,
 };
-use crate::request::{Request, request_in, unknown_access, unknown_rules, unknown_way};
+use crate::request::{Request, request_in};
+use crate::unknown::{unknown_access, unknown_rules, unknown_way};
 use clap::{ArgMatches, Command, Error};
 use mq_args::{Argument, ArgumentKind, UsageFault, described, with_arguments};
 use std::alloc::{AllocError, Global};
 
 // Said of words that ask nothing and that `clap` takes all the same, which `reach` alone has.
 const NO_QUESTION: &str = "\
-error: reach takes either CLIENT and FILTER, or --script SCRIPT without --user
+error: reach takes CLIENT and FILTER, or --any FILTER, or --script SCRIPT without --user
 
 For more information, try 'mqroute-acl reach --help'.
 ";
@@ -98,7 +100,7 @@ const LINT: Subcommand<'static> = Subcommand {
     ],
 };
 
-// `reach FILE [CLIENT] [FILTER] [--user NAME] [--script SCRIPT] [--rules RULES] [--json]`
+// `reach FILE [CLIENT] [FILTER] [--any FILTER] [--user NAME] [--script SCRIPT] [--steps N] [--rules RULES] [--json]`
 const REACH: Subcommand<'static> = Subcommand {
     name: "reach",
     about: REACH_ABOUT,
@@ -108,8 +110,10 @@ const REACH: Subcommand<'static> = Subcommand {
         Argument("json", ArgumentKind::Flag, JSON_HELP),
         Argument("CLIENT", ArgumentKind::Optional("CLIENT"), SUBSCRIBER_HELP),
         Argument("FILTER", ArgumentKind::Optional("FILTER"), FILTER_HELP),
+        Argument("any", ArgumentKind::Option("FILTER"), ANY_HELP),
         Argument("user", ArgumentKind::Option("NAME"), USER_HELP),
         Argument("script", ArgumentKind::Option("SCRIPT"), SCRIPT_HELP),
+        Argument("steps", ArgumentKind::Number, STEPS_HELP),
         Argument("rules", ArgumentKind::Option("RULES"), RULES_HELP),
     ],
 };
@@ -130,7 +134,7 @@ const WHO: Subcommand<'static> = Subcommand {
     ],
 };
 
-// `test EXPECTED [LIST..] [--steps N] [--rules RULES] [--json]`
+// `test EXPECTED [LIST..] [--junit JUNIT] [--steps N] [--rules RULES] [--json]`
 const TEST: Subcommand<'static> = Subcommand {
     name: "test",
     about: TEST_ABOUT,
@@ -139,6 +143,7 @@ const TEST: Subcommand<'static> = Subcommand {
         Argument("EXPECTED", ArgumentKind::Required, EXPECTED_HELP),
         Argument("json", ArgumentKind::Flag, JSON_HELP),
         Argument("LIST", ArgumentKind::Any, LISTS_HELP),
+        Argument("junit", ArgumentKind::Option("JUNIT"), JUNIT_HELP),
         Argument("steps", ArgumentKind::Number, STEPS_HELP),
         Argument("rules", ArgumentKind::Option("RULES"), RULES_HELP),
     ],

@@ -9,8 +9,9 @@ answered holds for every client id that a broker can have, every user name that
 it can have or none, and every topic. It is by rules of our own; without --rules
 it is noted on standard error where mosquitto 2.0 decides otherwise. With --rules
 mosquitto it is by those of mosquitto 2.0, where compare and lint leave out ids
-and user names with /, + or # if a list has pattern lines, who and test leave
-them out always, and they say so on standard error. A file - is standard input.
+and user names with /, + or # if a list has pattern lines, who, test and reach
+--any leave them out always, and they say so on standard error. A file - is
+standard input.
 
 Exit status:
   0  both lists allow the same, or nothing of the way of --only differs, no line
@@ -58,8 +59,9 @@ pub(crate) const COMPARE_AFTER_HELP: &str = "\
 Each difference is shown with a topic, and with the line of each list that
 decides it. All are listed: for the clients without a user name, for those of
 each user name that has lines of its own, and for all others, each pair of
-lines that decides. A level, a client id or a user name that no line names
-stands for any other of its kind that no line names.
+lines that decides. In a topic <level> is any level that no line names and that
+doesn't begin with $, and <$level> any that does. <client id> and <user> are any
+that no line names, at the front of a topic such as don't begin with $.
 
 With --only gained those alone are shown that the new list allows and the old
 one doesn't, with --only lost the others, and the status is of these.
@@ -112,6 +114,9 @@ With --json each remark is an object with
 
 pub(crate) const SUBSCRIBER_HELP: &str = "The client id of the subscriber";
 
+pub(crate) const ANY_HELP: &str =
+    "Ask about clients with any id; %c and %u as levels are the client's own id and user name";
+
 pub(crate) const SCRIPT_HELP: &str =
     "Ask about all subscriptions of this script, or of standard input (-)";
 
@@ -121,6 +126,12 @@ pub(crate) const REACH_ABOUT: &str =
 pub(crate) const REACH_AFTER_HELP: &str = "\
 A client is sent what its filter matches and the list lets it read. A topic
 that a subscription to FILTER can be sent is shown, or that there is none.
+
+With --any FILTER, in place of CLIENT and FILTER, it is asked of all client ids
+at once: that nothing can be sent holds for each. A user that no line of the
+list is for is refused there. A step is a line that is looked at for one
+question, or as much work as that takes. When the steps are spent nothing is
+answered.
 
 With --script SCRIPT, in place of CLIENT and FILTER, those subscriptions of the
 script are listed that can be sent nothing: line, client, user name and filter.
@@ -132,6 +143,11 @@ no commands are passed over, and shown; a script without a command is refused.
 With --json the answer is an object with
   filter  the subscription
   topic   a topic that it can be sent, or null
+With --json and --any it has too
+  client   a client id that can be sent it, or null
+  line     the line that allows it, with file, line and text, or null
+  made_up  which of client and the levels of the topic stand for others
+  user     the user name, or null
 With --json and --script each subscription in vain is an object with
   file, line  the script, and the line of its subscribe
   client      the client id
@@ -185,6 +201,9 @@ pub(crate) const EXPECTED_HELP: &str = "The file of what is expected, or - for s
 
 pub(crate) const LISTS_HELP: &str =
     "The access lists to test, or - for one of them (those that acl lines of EXPECTED name)";
+
+pub(crate) const JUNIT_HELP: &str =
+    "Write what holds and what doesn't to this file too, in JUnit's XML";
 
 pub(crate) const TEST_ABOUT: &str = "Tests access lists against what is expected of them";
 

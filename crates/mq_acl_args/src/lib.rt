@@ -8,6 +8,7 @@ mod help;
 mod options;
 mod request;
 mod selection;
+mod unknown;
 
 pub use client::Client;
 pub use command_line::arguments;

@@ -3,8 +3,8 @@ ghost use Rattle.std.specs.Prelude.{◌≡◌, [], Some, IfOk, codes, map, optio
 ghost use Rattle.std.specs.Option.{option_copied};
 ghost use Rattle.clap.specs.Words.{all_of, first_of, rows_of, found_of, subcommand_rows_of};
 ghost use Rattle.mq_acl_args.specs.CommandLine.{question_view, asked, files_of, GivesAsked};
-ghost use Rattle.mq_acl_args.specs.CommandLine.{all_asked, compare_asked_by, lint_asked, one_asked};
-ghost use Rattle.mq_acl_args.specs.CommandLine.{reach_asked_by, rules_asked};
+ghost use Rattle.mq_acl_args.specs.CommandLine.{all_asked, any_asked, compare_asked_by, lint_asked, one_asked};
+ghost use Rattle.mq_acl_args.specs.CommandLine.{reach_asked_by, rules_asked, some_asked};
 ghost use Rattle.mq_acl_args.specs.CommandLine.{access_asked, direction_named, steps_given, way_asked, way_named};
 ghost use Rattle.mq_acl_args.specs.CommandLine.{noted_given, test_asked_by};
 ghost use Rattle.mq_acl_args.specs.CommandLine.{who_asked_by, why_asked_by};
@@ -50,6 +50,15 @@ pub enum Question<'a> {
         /// The filter, or a shared subscription.
         filter: &'a str,
     },
+    /// Whether a client with any id can be sent anything.
+    ReachAny {
+        /// The file of the list.
+        file: &'a str,
+        /// The client's user name, if it has one.
+        user: Option<&'a str>,
+        /// The filter.
+        wanted: &'a str,
+    },
     /// Which subscriptions of a script can be sent nothing.
     ReachAll {
         /// The file of the list.
@@ -72,6 +81,8 @@ pub enum Question<'a> {
         expected: &'a str,
         /// The files of the lists, if others than those that it names are meant.
         lists: Vec<&'a str>,
+        /// The file to write the same to as JUnit's XML, if one is wanted.
+        junit: Option<&'a str>,
     },
 }
 
@@ -85,11 +96,14 @@ impl Question<'_> {
             Question::Why { file, .. } => inputs_among(&[*file]),
             Question::Lint { files } => inputs_among(files.as_slice()),
             Question::Reach { file, .. } => inputs_among(&[*file]),
+            Question::ReachAny { file, .. } => inputs_among(&[*file]),
             Question::ReachAll { file, script } => inputs_among(&[*file, *script]),
             Question::Who { file, .. } => inputs_among(&[*file]),
-            Question::Test { expected, lists } => {
-                inputs_among(&[*expected]) + inputs_among(lists.as_slice())
-            }
+            Question::Test {
+                expected,
+                lists,
+                ..
+            } => { inputs_among(&[*expected]) + inputs_among(lists.as_slice()) }
         }
     }
 }
@@ -107,13 +121,13 @@ pub struct Request<'a> {
 const USUAL_STEPS: u32 = 200_000_000;
 
 // The value with this id.
-fn value<'a>(matches: &ArgMatches<'a>, id: &str) -> Option<&'a str>
+pub(crate) fn value<'a>(matches: &ArgMatches<'a>, id: &str) -> Option<&'a str>
     ensures { option_copied result ≡ first_of id.now (rows_of (found_of matches.now)) }
 {
     matches.get_str(id)
 }
 
-fn way_named(word: &str) -> Option<Way>
+pub(crate) fn way_named(word: &str) -> Option<Way>
     ensures { result ≡ way_named word.now }
 {
     match word {
@@ -150,7 +164,7 @@ fn compare_in<'a>(matches: &ArgMatches<'a>) -> Option<Question<'a>>
     }
 }
 
-fn direction_named(word: &str) -> Option<Direction>
+pub(crate) fn direction_named(word: &str) -> Option<Direction>
     ensures { result ≡ direction_named word.now }
 {
     match word {
@@ -226,6 +240,28 @@ fn reach_one_in<'a>(matches: &ArgMatches<'a>, user: Option<&'a str>) -> Option<Q
     }
 }
 
+// Of clients with any id: no client, filter and script stand beside it.
+fn reach_any_in<'a>(
+    matches: &ArgMatches<'a>,
+    user: Option<&'a str>,
+    wanted: &'a str,
+) -> Option<Question<'a>>
+    ensures { let rows = rows_of (found_of matches.now) in option_map question_view result
+        ≡ any_asked (first_of (codes "FILE") rows) (first_of (codes "CLIENT") rows)
+        (first_of (codes "FILTER") rows) (option_copied user.entry) (first_of (codes "script") rows)
+        wanted.entry.now }
+{
+    match (
+        value(matches, "FILE"),
+        value(matches, "CLIENT"),
+        value(matches, "FILTER"),
+        value(matches, "script"),
+    ) {
+        (Some(file), None, None, None) => Some(Question::ReachAny { file, user, wanted }),
+        _ => None,
+    }
+}
+
 // Of the subscriptions of a script: no client, filter and user name stand beside it.
 fn reach_all_in<'a>(
     matches: &ArgMatches<'a>,
@@ -247,13 +283,25 @@ fn reach_all_in<'a>(
     }
 }
 
+// Of one subscription, or of those of a script.
+fn reach_some_in<'a>(matches: &ArgMatches<'a>, user: Option<&'a str>) -> Option<Question<'a>>
+    ensures { let rows = rows_of (found_of matches.now) in option_map question_view result
+        ≡ some_asked (first_of (codes "FILE") rows) (first_of (codes "CLIENT") rows)
+        (first_of (codes "FILTER") rows) (option_copied user.entry) (first_of (codes "script") rows) }
+{
+    match value(matches, "script") {
+        None => reach_one_in(matches, user),
+        Some(script) => reach_all_in(matches, user, script),
+    }
+}
+
 fn reach_in<'a>(matches: &ArgMatches<'a>) -> Option<Question<'a>>
     ensures { option_map question_view result ≡ reach_asked_by (rows_of (found_of matches.now)) }
 {
     let user = value(matches, "user");
-    match value(matches, "script") {
-        None => reach_one_in(matches, user),
-        Some(script) => reach_all_in(matches, user, script),
+    match value(matches, "any") {
+        None => reach_some_in(matches, user),
+        Some(wanted) => reach_any_in(matches, user, wanted),
     }
 }
 
@@ -294,7 +342,11 @@ fn test_in<'a>(alloc: Global, matches: &ArgMatches<'a>) -> Result<Option<Questio
         return Ok(None);
     };
     let lists = lists_in(alloc, matches)?;
-    Ok(Some(Question::Test { expected, lists }))
+    Ok(Some(Question::Test {
+        expected,
+        lists,
+        junit: value(matches, "junit"),
+    }))
 }
 
 fn question_in<'a>(
@@ -363,49 +415,6 @@ fn request_of<'a>(
     match question_in(alloc, name, matches)? {
         Some(question) => Ok(Some(Request { question, options })),
         None => Ok(None),
-    }
-}
-
-/// The word for the rules in the values of a command line, if it is unknown.
-pub(crate) fn unknown_rules<'a>(matches: &ArgMatches<'a>) -> Option<&'a str> {
-    let (_, values) = matches.subcommand()?;
-    let word = value(values, "rules")?;
-    match Rules::named(word) {
-        Some(_) => None,
-        None => Some(word),
-    }
-}
-
-// The option of a subcommand that is of reading or of writing.
-fn access_option(name: &str) -> Option<(&'static str, &'static str)> {
-    match name {
-        "who" => Some(("access", "--access <ACCESS>")),
-        "why" => Some(("may", "--may <ACCESS>")),
-        _ => None,
-    }
-}
-
-/// The word that is to be `read` or `write` in the values of a command line, if it is unknown, and its option.
-pub(crate) fn unknown_access<'a>(matches: &ArgMatches<'a>) -> Option<(&'a str, &'static str)> {
-    let (name, values) = matches.subcommand()?;
-    let (id, option) = access_option(name)?;
-    let word = value(values, id)?;
-    match direction_named(word) {
-        Some(_) => None,
-        None => Some((word, option)),
-    }
-}
-
-/// The word of `compare --only` in the values of a command line, if it is unknown.
-pub(crate) fn unknown_way<'a>(matches: &ArgMatches<'a>) -> Option<&'a str> {
-    let (name, values) = matches.subcommand()?;
-    if name != "compare" {
-        return None;
-    }
-    let word = value(values, "only")?;
-    match way_named(word) {
-        Some(_) => None,
-        None => Some(word),
     }
 }
 

@@ -2,9 +2,9 @@
 use crate::deciding::{Side, decision, line_if};
 use crate::json::{Datum, add_object};
 use crate::list::{Lines, ListText, lines_of};
-use crate::notes::notes_on;
+use crate::placeholders::shown_topic;
 use crate::table::{add_cell, widened};
-use crate::who::group_text;
+use crate::who::{add_who, group_text};
 use mq_acl::{Direction, Rules};
 use mq_findings::{Difference, Group, Way, gather};
 use mq_topic::LevelText;
@@ -25,8 +25,7 @@ pub struct Scope {
 struct ChangeRow<'a> {
     who: String,
     access: &'static str,
-    topic: &'a str,
-    notes: String,
+    topic: String,
     old: Side<'a>,
     new: Side<'a>,
 }
@@ -38,7 +37,6 @@ impl Drop for ChangeRow<'_> {
             who: _,
             access: _,
             topic: _,
-            notes: _,
             old: _,
             new: _,
         } = self;
@@ -47,9 +45,7 @@ impl Drop for ChangeRow<'_> {
 
 #[derive(Clone, Copy, Drop)]
 struct Widths {
-    who: usize,
     access: usize,
-    topic: usize,
     place: usize,
 }
 
@@ -72,8 +68,7 @@ fn change_row<'a>(
     Ok(ChangeRow {
         who: group_text(alloc, group)?,
         access: access_words(difference.direction, difference.way),
-        topic: difference.topic.text(),
-        notes: notes_on(alloc, difference)?,
+        topic: shown_topic(alloc, difference)?,
         old: decision(alloc, old, difference.old_reason)?,
         new: decision(alloc, new, difference.new_reason)?,
     })
@@ -81,15 +76,11 @@ fn change_row<'a>(
 
 fn widths_of(rows: &[ChangeRow<'_>]) -> Widths {
     let mut widths = Widths {
-        who: 0,
         access: 0,
-        topic: 0,
         place: 0,
     };
     for row in rows {
-        widths.who = widened(widths.who, row.who.as_str());
         widths.access = widened(widths.access, row.access);
-        widths.topic = widened(widths.topic, row.topic);
         widths.place = widened(widths.place, row.old.place.as_str());
         widths.place = widened(widths.place, row.new.place.as_str());
     }
@@ -104,14 +95,9 @@ fn add_side(text: &mut String, side: &Side<'_>, width: usize) -> Result<(), Allo
 }
 
 fn add_head(text: &mut String, row: &ChangeRow<'_>, widths: Widths) -> Result<(), AllocError> {
-    add_cell(text, row.who.as_str(), widths.who)?;
+    text.push_str("  ")?;
     add_cell(text, row.access, widths.access)?;
-    if row.notes.is_empty() {
-        text.push_str(row.topic)?;
-    } else {
-        add_cell(text, row.topic, widths.topic)?;
-        text.push_str(row.notes.as_str())?;
-    }
+    text.push_str(row.topic.as_str())?;
     text.push('\n')
 }
 
@@ -134,7 +120,9 @@ fn what(count: usize, only: Option<Way>) -> &'static str {
 fn table(alloc: Global, scope: Scope, rows: &[ChangeRow<'_>]) -> Result<String, AllocError> {
     let widths = widths_of(rows);
     let mut text = String::new(alloc);
+    let mut who = "";
     for row in rows {
+        who = add_who(&mut text, who, row.who.as_str())?;
         add_row(&mut text, row, widths)?;
     }
     let count = rows.len();

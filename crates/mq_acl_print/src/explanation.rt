@@ -1,4 +1,5 @@
 //! Which lines decide whether a client may read and write a topic, in words and as JSON.
+use crate::asked_client::{AskedClient, add_client};
 use crate::json::{Datum, add_object};
 use crate::lines::add_line;
 use crate::list::{Line, ListText};
@@ -87,15 +88,36 @@ fn add_verdict(
     add_words(text, list, verb, verdict)
 }
 
-/// The answers for reading and writing, each with the line that decides it.
+/// What is asked of a list: whether this client may read and write this topic.
+#[derive(Clone, Copy, Drop)]
+pub struct AskedTopic<'a> {
+    /// The client.
+    pub client: AskedClient<'a>,
+    /// The topic.
+    pub topic: &'a str,
+    /// That no line is for the client's user name, if it is so.
+    pub unnamed: &'a str,
+}
+
+fn add_asked(text: &mut String, asked: AskedTopic<'_>) -> Result<(), AllocError> {
+    add_client(text, asked.client)?;
+    let AskedTopic { topic, unnamed, .. } = asked;
+    write!(text, ", topic {topic}\n{unnamed}")
+}
+
+/// What is asked, and the answers for reading and writing, each with the line that decides it; as JSON the answers alone.
 pub fn explanation_text(
     alloc: Global,
     list: ListText<'_, '_>,
+    asked: AskedTopic<'_>,
     reading: Verdict,
     writing: Verdict,
     json: bool,
 ) -> Result<String, AllocError> {
     let mut text = String::new(alloc);
+    if !json {
+        add_asked(&mut text, asked)?;
+    }
     add_verdict(alloc, &mut text, list, "read", reading, json)?;
     add_verdict(alloc, &mut text, list, "write", writing, json)?;
     Ok(text)

@@ -1,6 +1,8 @@
 //! What is told of access lists, in words and as JSON.
 #![tactic(auto)]
 
+mod any_client;
+mod asked_client;
 mod changes;
 mod deciding;
 mod explanation;
@@ -9,22 +11,24 @@ mod json;
 mod lines;
 mod list;
 mod made_up;
-mod notes;
 mod permission_rows;
 mod permissions;
+mod placeholders;
 mod refusals;
 mod subscriptions;
 mod table;
 mod topic;
 mod who;
 
+pub use any_client::any_text;
+pub use asked_client::{AskedClient, unnamed_text};
 pub use changes::{Scope, changes_text};
-pub use explanation::explanation_text;
+pub use explanation::{AskedTopic, explanation_text};
 pub use faults::fault_words;
 pub use json::{Datum, add_object};
 pub use list::{Line, Lines, ListText, lines_of};
-pub use notes::notes_on;
 pub use permissions::{Asked, permissions_text};
+pub use placeholders::shown_topic;
 pub use subscriptions::subscriptions_text;
-pub use topic::topic_text;
+pub use topic::{AskedFilter, topic_text};
 pub use who::who_text;

@@ -1,11 +1,10 @@
 //! What is allowed, in rows of those that are told alike.
 use crate::deciding::{Side, decision};
 use crate::list::Lines;
-use crate::notes::notes_on;
+use crate::placeholders::shown_topic;
 use crate::who::who_text;
 use mq_acl::Direction;
 use mq_findings::{Difference, Reason};
-use mq_topic::LevelText;
 use std::alloc::{AllocError, Global};
 use std::collections::BTreeMap;
 
@@ -54,15 +53,6 @@ impl Drop for PermissionRow<'_> {
     }
 }
 
-fn topic_words(alloc: Global, difference: &Difference) -> Result<String, AllocError> {
-    let topic = difference.topic.text();
-    let notes = notes_on(alloc, difference)?;
-    if notes.is_empty() {
-        return String::from_str(alloc, topic);
-    }
-    format!(in alloc; "{topic}  {notes}")
-}
-
 fn is_denied(difference: &Difference) -> bool {
     matches!(difference.old_reason, Reason::Deny(_))
 }
@@ -72,7 +62,7 @@ fn denial_row<'a>(
     list: Lines<'a, 'a, 'a>,
     denied: &'a Difference,
 ) -> Result<DenialRow<'a>, AllocError> {
-    let words = topic_words(alloc, denied)?;
+    let words = shown_topic(alloc, denied)?;
     Ok(DenialRow {
         topic: format!(in alloc; "but not {words}")?,
         side: decision(alloc, list, denied.old_reason)?,
@@ -100,7 +90,7 @@ fn row_of<'a>(
     let topic = if refused.is_empty() {
         String::from_str(alloc, "every topic")?
     } else {
-        topic_words(alloc, granted)?
+        shown_topic(alloc, granted)?
     };
     Ok(PermissionRow {
         all: vec![in alloc; granted]?,

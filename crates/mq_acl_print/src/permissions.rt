@@ -5,6 +5,7 @@ use crate::list::{Lines, ListText, lines_of};
 use crate::permission_rows::{PermissionRow, PermissionRows};
 use crate::refusals::Refusals;
 use crate::table::{add_cell, widened};
+use crate::who::add_who;
 use mq_acl::Direction;
 use mq_findings::Difference;
 use mq_topic::LevelText;
@@ -24,7 +25,6 @@ pub struct Asked<'a> {
 #[derive(Clone, Copy, Drop)]
 struct Widths {
     access: usize,
-    who: usize,
     topic: usize,
     place: usize,
 }
@@ -105,7 +105,6 @@ fn rows_of<'a>(
 // With those of the row and of what is denied of it.
 fn widen(widths: &mut Widths, row: &PermissionRow<'_>) {
     widths.access = widened(widths.access, row.access);
-    widths.who = widened(widths.who, row.who.as_str());
     widths.topic = widened(widths.topic, row.topic.as_str());
     widths.place = widened(widths.place, row.side.place.as_str());
     for denial in &row.denials {
@@ -117,7 +116,6 @@ fn widen(widths: &mut Widths, row: &PermissionRow<'_>) {
 fn widths_of(rows: &[PermissionRow<'_>]) -> Widths {
     let mut widths = Widths {
         access: 0,
-        who: 0,
         topic: 0,
         place: 0,
     };
@@ -130,12 +128,12 @@ fn widths_of(rows: &[PermissionRow<'_>]) -> Widths {
 fn add_line(
     text: &mut String,
     widths: Widths,
-    head: (&str, &str),
+    access: &str,
     topic: &str,
     side: &Side<'_>,
 ) -> Result<(), AllocError> {
-    add_cell(text, head.0, widths.access)?;
-    add_cell(text, head.1, widths.who)?;
+    text.push_str("  ")?;
+    add_cell(text, access, widths.access)?;
     add_cell(text, topic, widths.topic)?;
     add_cell(text, side.place.as_str(), widths.place)?;
     text.push_str(side.words)?;
@@ -143,10 +141,9 @@ fn add_line(
 }
 
 fn add_row(text: &mut String, row: &PermissionRow<'_>, widths: Widths) -> Result<(), AllocError> {
-    let head = (row.access, row.who.as_str());
-    add_line(text, widths, head, row.topic.as_str(), &row.side)?;
+    add_line(text, widths, row.access, row.topic.as_str(), &row.side)?;
     for denial in &row.denials {
-        add_line(text, widths, ("", ""), denial.topic.as_str(), &denial.side)?;
+        add_line(text, widths, "", denial.topic.as_str(), &denial.side)?;
     }
     Ok(())
 }
@@ -154,7 +151,9 @@ fn add_row(text: &mut String, row: &PermissionRow<'_>, widths: Widths) -> Result
 fn table(alloc: Global, rows: &[PermissionRow<'_>]) -> Result<String, AllocError> {
     let widths = widths_of(rows);
     let mut text = String::new(alloc);
+    let mut who = "";
     for row in rows {
+        who = add_who(&mut text, who, row.who.as_str())?;
         add_row(&mut text, row, widths)?;
     }
     Ok(text)

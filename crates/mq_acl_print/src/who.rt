@@ -92,6 +92,18 @@ fn add_classes(alloc: Global, text: &mut String, all: &[&Difference]) -> Result<
     Ok(())
 }
 
+/// Adds whom the rows that follow are about, if those before are about others.
+pub(crate) fn add_who<'a>(
+    text: &mut String,
+    before: &str,
+    who: &'a str,
+) -> Result<&'a str, AllocError> {
+    if who != before {
+        writeln!(text, "{who}")?;
+    }
+    Ok(who)
+}
+
 /// The clients of these, in words.
 pub fn who_text(alloc: Global, all: &[&Difference]) -> Result<String, AllocError> {
     let mut text = String::new(alloc);

@@ -6,9 +6,8 @@ use crate::objects::json_lines;
 use crate::verdicts::{Verdict, holding};
 use crate::words::finding_words;
 use mq_acl::{Direction, Rules};
-use mq_acl_print::{Lines, ListText, lines_of, notes_on, who_text};
+use mq_acl_print::{Lines, ListText, lines_of, shown_topic, who_text};
 use mq_findings::Difference;
-use mq_topic::LevelText;
 use std::alloc::{AllocError, Global};
 
 fn access_words(direction: Direction, may: bool) -> &'static str {
@@ -28,13 +27,8 @@ fn add_shown(
 ) -> Result<(), AllocError> {
     let access = access_words(shown.direction, may);
     let who = who_text(alloc, &[shown])?;
-    let topic = shown.topic.text();
-    write!(text, "    {access}  {who}  {topic}")?;
-    let notes = notes_on(alloc, shown)?;
-    if !notes.is_empty() {
-        write!(text, "  {notes}")?;
-    }
-    text.push('\n')
+    let topic = shown_topic(alloc, shown)?;
+    writeln!(text, "    {access}  {who}  {topic}")
 }
 
 fn add_decided(text: &mut String, decided: Decided<'_>) -> Result<(), AllocError> {
@@ -64,7 +58,7 @@ fn is_of_list(finding: &Finding<'_>) -> bool {
 }
 
 // Adds why the line doesn't hold.
-fn add_why(
+pub(crate) fn add_why(
     alloc: Global,
     text: &mut String,
     lists: &[ReadList<'_, '_>],

@@ -2,7 +2,8 @@
 use Rattle.std.proofs.Common.{ℕ, Bool, List, Option}
 use Rattle.mq_acl.specs.declared.rules.Rules.{Rules}
 use Rattle.mq_acl_answers.specs.declared.outcome.Outcome.{Outcome}
-use Rattle.mq_acl_args.specs.CommandLine.{Asked, Compare, Why, Lint, Reach, ReachAll, Who, Test}
+use Rattle.mq_acl_args.specs.CommandLine.{Asked, Compare, Why, Lint, Reach, ReachAny}
+use Rattle.mq_acl_args.specs.CommandLine.{ReachAll, Who, Test}
 use Rattle.mqroute_acl.specs.Program.{IsAnswer}
 
 -- where `other` follows from `quiet`, it holds of the answer too
@@ -18,11 +19,13 @@ answer-weaker rules noted input (Lint files) outcome follows is =
     (is.0, λ own unasked. follows (is.1 own unasked))
 answer-weaker rules noted input (Reach file client filter) outcome follows is =
     (is.0, is.1, is.2, λ own plain. follows (is.3 own plain))
+answer-weaker rules noted input (ReachAny file user wanted) outcome follows is =
+    (is.0, is.1, is.2, λ own plain. follows (is.3 own plain))
 answer-weaker rules noted input (ReachAll file script) outcome follows is =
     (is.0, is.1, is.2, is.3, is.4, λ own plain. follows (is.5 own plain))
 answer-weaker rules noted input (Who file wanted access only) outcome follows is =
     (is.0, is.1, is.2, λ own plain. follows (is.3 own plain))
-answer-weaker rules noted input (Test expected lists) outcome follows is = (
+answer-weaker rules noted input (Test expected lists junit) outcome follows is = (
   is.0,
   is.1,
   record {

@@ -5,10 +5,12 @@ use Rattle.mq_acl.specs.declared.rules.Rules.{Rules}
 use Rattle.mq_acl.specs.declared.rules.Rules.TheVariants.{Own}
 use Rattle.mq_args.specs.declared.usage.UsageFault.{UsageFault}
 use Rattle.mq_args.specs.declared.usage.UsageFault.TheVariants.{Help, Usage, Memory}
-use Rattle.mq_acl_args.specs.CommandLine.{Asked, Compare, Why, Lint, Reach, ReachAll, Who, Test}
+use Rattle.mq_acl_args.specs.CommandLine.{Asked, Compare, Why, Lint, Reach, ReachAny, ReachAll}
+use Rattle.mq_acl_args.specs.CommandLine.{Who, Test}
 use Rattle.mq_acl_args.specs.CommandLine.{ReadsInputOnce}
 use Rattle.mq_acl_answers.specs.Answers.{IsCompared, IsExplained, IsReached}
 use Rattle.mq_acl_answers.specs.Notes.{IsQuiet}
+use Rattle.mq_acl_answers.specs.ReachAny.{IsReachedByAny}
 use Rattle.mq_acl_answers.specs.Script.{AreTold}
 use Rattle.mq_acl_answers.specs.Statuses.{outcome_status}
 use Rattle.mq_acl_answers.specs.Who.{IsWho}
@@ -34,13 +36,16 @@ IsAnswer rules noted input (Lint files) outcome quiet = AreLinted rules input fi
 IsAnswer rules noted input (Reach file client filter) outcome quiet = (text : List ℕ)
     × IsTextOf input file text × IsReached rules text client.id client.user filter outcome
     × (rules ≡ Own → IsQuiet noted text → quiet)
+IsAnswer rules noted input (ReachAny file user wanted) outcome quiet = (text : List ℕ)
+    × IsTextOf input file text × IsReachedByAny rules text user wanted outcome
+    × (rules ≡ Own → IsQuiet noted text → quiet)
 IsAnswer rules noted input (ReachAll file script) outcome quiet = (text lines : List ℕ)
     × IsTextOf input file text × IsTextOf input script lines × AreTold rules text lines outcome
     × (rules ≡ Own → IsQuiet noted text → quiet)
 IsAnswer rules noted input (Who file wanted access only) outcome quiet = (text : List ℕ)
     × IsTextOf input file text × IsWho rules text wanted access only outcome
     × (rules ≡ Own → IsQuiet noted text → quiet)
-IsAnswer rules noted input (Test expected lists) outcome quiet = (text : List ℕ)
+IsAnswer rules noted input (Test expected lists junit) outcome quiet = (text : List ℕ)
     × IsTextOf input expected text × IsTested rules noted input text lists outcome quiet
 
 -- what is asked can be asked, and is answered with this status

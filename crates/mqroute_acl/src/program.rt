@@ -10,6 +10,7 @@ ghost use Rattle.mq_acl_args.specs.CommandLine.{values_of};
 ghost use Rattle.mq_acl_args.specs.Files.{input_count, is_input as is_dash};
 ghost use Rattle.mq_acl_answers.specs.Answers.{IsCompared, IsExplained, IsReached};
 ghost use Rattle.mq_acl_answers.specs.Notes.{IsQuiet};
+ghost use Rattle.mq_acl_answers.specs.ReachAny.{IsReachedByAny};
 ghost use Rattle.mq_acl_answers.specs.Script.{AreTold};
 ghost use Rattle.mq_acl_answers.specs.Statuses.{failure_status};
 ghost use Rattle.mq_acl_answers.specs.Who.{IsWho};
@@ -21,8 +22,8 @@ use crate::lint::answer_lint;
 use crate::test::answer_test;
 use mq_acl::Direction;
 use mq_acl_answers::{
-    FAILED, Failure, Outcome, UNREADABLE, print, tell_changes, tell_reach, tell_subscriptions,
-    tell_who, tell_why,
+    FAILED, Failure, Outcome, UNREADABLE, print, tell_changes, tell_reach, tell_reach_any,
+    tell_subscriptions, tell_who, tell_why,
 };
 use mq_acl_args::{Client, Options, Question, Request, Selection, arguments, is_input};
 use mq_acl_print::ListText;
@@ -120,6 +121,31 @@ fn answer_reach<'a, R: Files, I: Read, W: Write>(
         text: text.as_str(),
     };
     tell_reach(alloc, list, about.0, about.1, options, out, notes)
+}
+
+/// Of a file, a user name or none, and a filter: of clients with any id.
+fn answer_reach_any<'a, R: Files, I: Read, W: Write>(
+    rt: &R,
+    alloc: Global,
+    about: (&'a str, Option<&'a str>, &'a str),
+    options: Options,
+    input: &mut I,
+    out: &mut W,
+    notes: &mut String,
+) -> Result<Outcome, Failure<'a>>
+    ensures ok { IfOk result (λ outcome. (text : List ℕ)
+        × IsTextOf (I.remaining input.old) about.entry.0.now text
+        × IsReachedByAny options.rules text (option_copied about.entry.1) about.entry.2.now outcome
+        × (options.rules ≡ Own → IsQuiet options.noted text → notes.new ≡ notes.old)) }
+    ensures unread { IfErr result (λ failure. failure_status failure ≡ 2 → out.new ≡ out.old) }
+    ensures kept { input_count (about.entry.0.now ∷ []) ≡ 0 → input.new ≡ input.old }
+{
+    let text = text_of(rt, alloc, about.0, input)?;
+    let list = ListText {
+        file: about.0,
+        text: text.as_str(),
+    };
+    tell_reach_any(alloc, list, about.1, about.2, options, out, notes)
 }
 
 /// Of the script in a file.
@@ -248,6 +274,10 @@ fn answer<'a, R: Files, I: Read, W: Write>(
             let about = (client, filter);
             answer_reach(rt, alloc, file, about, options, input, out, notes)
         }
+        Question::ReachAny { file, user, wanted } => {
+            let about = (file, user, wanted);
+            answer_reach_any(rt, alloc, about, options, input, out, notes)
+        }
         Question::ReachAll { file, script } => {
             answer_reach_all(rt, alloc, file, script, options, input, out, notes)
         }
@@ -259,9 +289,15 @@ fn answer<'a, R: Files, I: Read, W: Write>(
             let about = (file, wanted, selection);
             answer_who(rt, alloc, about, options, input, out, notes)
         }
-        Question::Test { expected, lists } => {
+        Question::Test {
+            expected,
+            lists,
+            junit,
+        } => {
             let lists = lists.as_slice();
-            answer_test(rt, alloc, expected, lists, options, input, out, notes)
+            answer_test(
+                rt, alloc, expected, lists, junit, options, input, out, notes,
+            )
         }
     }
 }

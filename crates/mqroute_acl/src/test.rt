@@ -20,10 +20,12 @@ use mq_acl_answers::{Failure, Outcome, add_otherwise, add_who_limit, list_failur
 use mq_acl_args::Options;
 use mq_acl_print::ListText;
 use mq_acl_test::{
-    ReadList, TestFault, Verdict, all_hold, judge_all, read_list, verdicts_text, wanted_files,
+    ReadList, TestFault, Verdict, all_hold, judge_all, junit_text, read_list, verdicts_text,
+    wanted_files,
 };
 use mq_expect::{Numbered, read_expectations};
 use std::alloc::{AllocError, Global};
+use std::fs;
 use std::io::{self, ErrorKind, Read, Write};
 use std::rt::Files;
 
@@ -222,16 +224,39 @@ fn outcome_of(verdicts: &[Verdict<'_, '_>]) -> Outcome
 }
 
 // What is told of the lines, and what it comes to.
+#[derive(Drop)]
+struct Told {
+    text: String,
+    // The same in JUnit's XML, if that is wanted.
+    junit: Option<String>,
+    outcome: Outcome,
+}
+
+fn junit_if(
+    alloc: Global,
+    junit: Option<&str>,
+    expected: ListText<'_, '_>,
+    lists: &[ReadList<'_, '_>],
+    verdicts: &[Verdict<'_, '_>],
+) -> Result<Option<String>, AllocError> {
+    if junit.is_none() {
+        return Ok(None);
+    }
+    let text = junit_text(alloc, expected, lists, verdicts)?;
+    Ok(Some(text))
+}
+
 fn judged<'t>(
     alloc: Global,
     expected: ListText<'t, 't>,
     given: &[&'t str],
     expectations: &[Numbered<'t>],
     lists: &[ReadList<'t, '_>],
+    junit: Option<&str>,
     options: Options,
-) -> Result<(String, Outcome), Failure<'t>>
+) -> Result<Told, Failure<'t>>
     ensures { IfOk result (λ told. TellsTested options.rules lists.now
-        (questions (map (λ file. file.now) given.now) (numbered_views expectations.now)) told.1) }
+        (questions (map (λ file. file.now) given.now) (numbered_views expectations.now)) told.outcome) }
 {
     let rules = options.rules;
     let verdicts = match judge_all(alloc, rules, given, expectations, lists, options.steps) {
@@ -239,8 +264,27 @@ fn judged<'t>(
         Err(fault) => return Err(failure_of(expected.file, fault)),
     };
     let outcome = outcome_of(&verdicts);
-    let text = verdicts_text(alloc, rules, expected, lists, &verdicts, options.json)?;
-    Ok((text, outcome))
+    Ok(Told {
+        text: verdicts_text(alloc, rules, expected, lists, &verdicts, options.json)?,
+        junit: junit_if(alloc, junit, expected, lists, &verdicts)?,
+        outcome,
+    })
+}
+
+// Refuses to write to a file that is read.
+fn keep_apart<'t>(
+    junit: Option<&'t str>,
+    expected: &str,
+    given: &[&str],
+    wanted: &[&str],
+) -> Result<(), Failure<'t>> {
+    let Some(file) = junit else {
+        return Ok(());
+    };
+    if file == expected || has_file(given, file) || has_file(wanted, file) {
+        return Err(Failure::Overwritten(file));
+    }
+    Ok(())
 }
 
 // The same of the texts of the lists that are given, and of those that the lines name.
@@ -249,24 +293,26 @@ fn tested<'t, R: Files, I: Read>(
     alloc: Global,
     expected: ListText<'t, 't>,
     given: &[&'t str],
+    junit: Option<&'t str>,
     options: Options,
     input: &mut I,
     notes: &mut String,
-) -> Result<(String, Outcome), Failure<'t>>
+) -> Result<Told, Failure<'t>>
     requires { input_count (map (λ file. file.now) given.now) ≤ 1 }
     ensures ok { IfOk result (λ told. (known : Option (List ℕ))
         → (1 ≤ input_count (map (λ file. file.now) given.now) → known ≡ I.remaining input.old)
         → IsTested options.rules options.noted known expected.entry.text.now
-        (map (λ file. file.now) given.now) told.1 (notes.new ≡ notes.old)) }
+        (map (λ file. file.now) given.now) told.outcome (notes.new ≡ notes.old)) }
     ensures kept { input_count (map (λ file. file.now) given.now) ≡ 0 → input.new ≡ input.old }
 {
     let mut lists = given_texts(rt, alloc, given, input)?;
     let expectations = read_expectations(alloc, expected.text)?;
     let wanted = wanted_files(alloc, given, &expectations)?;
+    keep_apart(junit, expected.file, given, &wanted)?;
     add_all_named(rt, alloc, given, &wanted, &mut lists)?;
     let read = read_all(alloc, options.rules, &lists)?;
     add_notes(alloc, notes, &read, options)?;
-    judged(alloc, expected, given, &expectations, &read, options)
+    judged(alloc, expected, given, &expectations, &read, junit, options)
 }
 
 // The same names, for a shorter life.
@@ -280,13 +326,30 @@ fn shorter<'a: 't, 't>(alloc: Global, names: &[&'a str]) -> Result<Vec<&'t str>,
     Ok(all)
 }
 
+fn write_junit<'a, R: Files>(
+    rt: &R,
+    file: Option<&'a str>,
+    text: Option<String>,
+) -> Result<(), Failure<'a>>
+    ensures { IfErr result (λ failure. failure_status failure ≡ 3) }
+{
+    let (Some(file), Some(text)) = (file, text) else {
+        return Ok(());
+    };
+    match fs::write(rt, file, text.as_str()) {
+        Ok(()) => Ok(()),
+        Err(error) => Err(Failure::Unwritten(file, error)),
+    }
+}
+
 /// Shows which lines of a file of expectations don't hold of the lists in these files; or, where none is given, of those that
-/// it names.
+/// it names. Before that it writes the same in JUnit's XML to a file, if one is named.
 pub(crate) fn answer_test<'a, R: Files, I: Read, W: Write>(
     rt: &R,
     alloc: Global,
     expected: &'a str,
     given: &[&'a str],
+    junit: Option<&'a str>,
     options: Options,
     input: &mut I,
     out: &mut W,
@@ -307,8 +370,11 @@ pub(crate) fn answer_test<'a, R: Files, I: Read, W: Write>(
         file: expected,
         text: text.as_str(),
     };
-    match tested(rt, alloc, said, &given, options, input, notes) {
-        Ok((answer, outcome)) => print_outcome(out, Ok(answer), outcome),
+    match tested(rt, alloc, said, &given, junit, options, input, notes) {
+        Ok(told) => {
+            write_junit(rt, junit, told.junit)?;
+            print_outcome(out, Ok(told.text), told.outcome)
+        }
         Err(failure) => Err(Failure::of_named(alloc, failure)),
     }
 }

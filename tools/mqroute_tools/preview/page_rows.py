@@ -9,7 +9,8 @@ from ..script.access_list import Line
 from .findings import Cause, Deciding, Preview, RefusedRow, Remark, Right, Subscription, UserRow
 from .gathered_topics import Topics
 from .page_tables import Column, cell, head_cell, number, row, table
-from .words import NO_LINE, OTHERWISE, concerned, made_up, may, share, topic_count, whom
+from .words import (
+    NO_LINE, OTHERWISE, client_of, concerned, may, share, topic_count, topic_of, whom)
 
 USERS = (Column("User"), Column("Clients", True), Column("Before", True), Column("After", True),
          Column("Lost", True), Column("Gained", True), Column("Topics"))
@@ -83,11 +84,11 @@ class Rows:
         return table(name, caption, RIGHTS, map(self.right, rights))
 
     def right(self, one: Right) -> str:
-        notes = made_up(one)
+        notes = client_of(one)
         more = f"<div class='made-up'>{escaped(notes)}</div>" if notes else ""
         return row((head_cell(f"<bdi>{escaped(concerned(one, None))}</bdi>"),
                     cell(may(one), f"may {one.change}"),
-                    cell(f"<code><bdi>{visible(one.topic)}</bdi></code>{more}", "topic"),
+                    cell(f"<code><bdi>{visible(topic_of(one))}</bdi></code>{more}", "topic"),
                     cell(self.deciding(one.deciding), "lines")))
 
     def subscriptions(self) -> str:

@@ -10,7 +10,8 @@ from ..script.access_list import Line
 from .findings import Cause, Deciding, Preview, RefusedRow, Remark, Right, Subscription, UserRow
 from .gathered_topics import Topics
 from .words import (
-    NO_LINE, changes, concerned, made_up, may, refusals, summary, topic_count, tried, verb, whom)
+    NO_LINE, changes, client_of, concerned, may, refusals, summary, topic_count, topic_of, tried,
+    verb, whom)
 
 ROWS = 20  # of each section
 CAUSES, TOPICS = 6, 4  # of each row
@@ -126,8 +127,9 @@ class Report:
 
     def right(self, right: Right) -> Iterator[str]:
         colour = PAINT[right.change]
-        parts = [concerned(right), f"{may(right)}  {shown(right.topic)}", made_up(right)]
-        for line in self.out.fitted(parts, "  "):
+        yield from self.out.fitted([concerned(right)], "  ")
+        parts = [f"{may(right)}  {shown(topic_of(right))}", client_of(right)]
+        for line in self.out.fitted(parts, "    "):
             yield self.out.painted(colour, line)
         yield from self.deciding(right.deciding, "      ")
 

@@ -11,7 +11,6 @@ NO_NAME = "clients without a user name"
 RULES = {"own": "mqroute's own rules", "mosquitto": "mosquitto's rules"}
 NO_LINE = "no line allows it"
 OTHERWISE = "another QoS, RETAIN flag, payload or expiry"
-ANY_LEVEL = "any other level"
 
 
 def whom(user: str | None) -> str:
@@ -107,24 +106,29 @@ def concerned(right: Right, most: int | None = MOST_NAMES) -> str:
     return "; ".join(parts)
 
 
-def stands_for(client: Client, level: str) -> str:
-    if level == client.client and level == client.user:
-        return "any other client id that is the user name too"
+def kind_of(client: Client, level: str) -> str:
+    """What a level is that stands for others."""
     if level == client.client:
-        return "any other client id"
-    return "any other user name" if level == client.user else ANY_LEVEL
+        return "client id and user" if level == client.user else "client id"
+    return "user" if level == client.user else "level"
 
 
-def made_up(right: Right) -> str:
-    """What in the topic stands for others; and the client id, where it stands for itself."""
-    first, notes = right.clients[0], []
-    levels = right.topic.split("/")
-    for place, level in enumerate(levels):
-        if level not in first.made_up or level in levels[:place]:
-            continue
-        kind = stands_for(first, level)
-        begins = " that begins with $" if level.startswith("$") else " that doesn't begin with $"
-        notes.append(f"{level}: {kind}{begins if not place or kind == ANY_LEVEL else ''}")
-    if first.client not in first.made_up:
-        notes.append(f'client id: "{shown(first.client)}"')
-    return ", ".join(notes)
+def level_shown(client: Client, place: int, level: str) -> str:
+    if level not in client.made_up:
+        return level
+    kind = kind_of(client, level)
+    hidden = level.startswith("$") and (place == 0 or kind == "level")
+    return f"<{'$' if hidden else ''}{kind}>"
+
+
+def topic_of(right: Right) -> str:
+    """The topic, with what stands for others in the place of its levels."""
+    first = right.clients[0]
+    return "/".join(level_shown(first, place, level)
+                    for place, level in enumerate(right.topic.split("/")))
+
+
+def client_of(right: Right) -> str:
+    """The client id, where it stands for itself alone."""
+    first = right.clients[0]
+    return "" if first.client in first.made_up else f'client id: "{shown(first.client)}"'

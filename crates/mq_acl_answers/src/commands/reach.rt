@@ -11,6 +11,7 @@ ghost use Rattle.mq_acl_answers.specs.Failures.{IsListFailure, IsWordFailure};
 ghost use Rattle.mq_acl_answers.specs.Notes.{IsQuiet};
 ghost use Rattle.mq_acl_answers.specs.Statuses.{failure_status};
 
+use crate::asked::{asked_client, unnamed_in};
 use crate::commands::short_topic::shown_topic;
 use crate::failure::Failure;
 use crate::list::rows_in;
@@ -19,7 +20,7 @@ use crate::outcome::Outcome;
 use crate::printing::print_outcome;
 use mq_acl::{Row, Rules};
 use mq_acl_args::{Client, Options};
-use mq_acl_print::{ListText, topic_text};
+use mq_acl_print::{AskedFilter, ListText, topic_text};
 use mq_reach::{Reach, ReachFault};
 use mq_topic::{LevelText, SubFilter, TopicFault, TopicFilter, TopicName};
 use mq_witness::ListFault;
@@ -149,6 +150,12 @@ pub fn tell_reach<'a, W: Write>(
     let found = find_topic(alloc, options.rules, list, client, subscription)?;
     add_otherwise(alloc, notes, list, options)?;
     let outcome = outcome_of(&found);
-    let text = topic_text(alloc, subscription, &found, options.json);
+    let unnamed = unnamed_in(alloc, list, client.user, options)?;
+    let asked = AskedFilter {
+        client: asked_client(client),
+        subscription,
+        unnamed: unnamed.as_str(),
+    };
+    let text = topic_text(alloc, asked, &found, options.json);
     print_outcome(out, text, outcome)
 }

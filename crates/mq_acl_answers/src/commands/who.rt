@@ -40,7 +40,7 @@ fn is_shared(wanted: &str) -> bool
 }
 
 // The filter with this text, which is no shared subscription.
-fn filter_of(alloc: Global, wanted: &str) -> Result<TopicFilter, Failure<'_>>
+pub(crate) fn filter_of(alloc: Global, wanted: &str) -> Result<TopicFilter, Failure<'_>>
     ensures ok { IfOk result (λ filter. filter ≡ wanted.entry.now) }
     ensures err { IfErr result (λ failure. (failure ≡ Failure.Memory)
         ⊎ ((failure ≡ Failure.Filter wanted.entry) × (is_unshared wanted.entry.now ≡ false))) }
@@ -55,7 +55,7 @@ fn filter_of(alloc: Global, wanted: &str) -> Result<TopicFilter, Failure<'_>>
     }
 }
 
-fn who_failure<'a>(
+pub(crate) fn who_failure<'a>(
     rules: Rules,
     list: ListText<'a, '_>,
     rows: &[Row],

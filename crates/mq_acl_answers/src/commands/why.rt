@@ -9,6 +9,7 @@ ghost use Rattle.mq_acl_answers.specs.Failures.{IsListFailure, IsTopicFailure};
 ghost use Rattle.mq_acl_answers.specs.Notes.{IsPlain, IsQuiet};
 ghost use Rattle.mq_acl_answers.specs.Statuses.{failure_status};
 
+use crate::asked::{asked_client, unnamed_in};
 use crate::cases::{Case, add_case};
 use crate::failure::Failure;
 use crate::list::rows_in;
@@ -17,7 +18,7 @@ use crate::outcome::Outcome;
 use crate::printing::print_outcome;
 use mq_acl::{Direction, Rules};
 use mq_acl_args::{Client, Options};
-use mq_acl_print::{ListText, explanation_text};
+use mq_acl_print::{AskedTopic, ListText, explanation_text};
 use mq_findings::{Verdict, why};
 use mq_topic::{TopicFault, TopicName};
 use mq_witness::has_pattern;
@@ -200,7 +201,13 @@ pub fn tell_why<'a, W: Write>(
     let explanation = explain(alloc, options.rules, list, client, topic)?;
     add_beside(alloc, notes, list, (client, topic), explanation, options)?;
     let outcome = outcome_of(&explanation, may);
+    let unnamed = unnamed_in(alloc, list, client.user, options)?;
+    let asked = AskedTopic {
+        client: asked_client(client),
+        topic,
+        unnamed: unnamed.as_str(),
+    };
     let Explanation { reading, writing } = explanation;
-    let text = explanation_text(alloc, list, reading, writing, options.json);
+    let text = explanation_text(alloc, list, asked, reading, writing, options.json);
     print_outcome(out, text, outcome)
 }

@@ -3,8 +3,8 @@ use Rattle.mq_acl_args.proofs.request.reach_in.Goals as goal
 
 pub returns-in-Some : goal.returns-in-Some
 returns-in-Some c = rw (sym c.value-user.ensures, sym c.value.ensures, c.in-Some.is)
-    c.reach_all_in.ensures
+    c.reach_any_in.ensures
 
 pub returns-in-None : goal.returns-in-None
 returns-in-None c = rw (sym c.value-user.ensures, sym c.value.ensures, c.in-None.is)
-    c.reach_one_in.ensures
+    c.reach_some_in.ensures

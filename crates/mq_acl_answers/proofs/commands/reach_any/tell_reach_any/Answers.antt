@@ -1,0 +1,17 @@
+use Rattle.std.specs.Option.{option_copied}
+use Rattle.std.proofs.lemmas.Result.{IfOk-weaker}
+use Rattle.mq_acl_answers.specs.ReachAny.{IsReachedByAny}
+use Rattle.mq_acl_answers.proofs.commands.reach_any.tell_reach_any.Goals as goal
+
+pub returns-clause-ok : goal.returns-clause-ok
+returns-clause-ok g c =
+    let found = c.in_ok-found.ensures.ok in
+    let rules = c.args.options.rules in
+    let user = option_copied c.args.user in
+    let is : IsReachedByAny rules c.args.list.text.now user c.args.wanted.now
+    c.outcome_of-outcome.result = record {
+      rows = found.rows;
+      read = found.read;
+      told = c.outcome_of-outcome.ensures rules found.rows user c.args.wanted.now found.told;
+    } in
+    IfOk-weaker c.print_outcome.result _ _ (λ told e. rw e is) c.print_outcome.ensures.ok

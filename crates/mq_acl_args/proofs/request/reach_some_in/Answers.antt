@@ -1,0 +1,8 @@
+use Rattle.std.proofs.Common.{sym}
+use Rattle.mq_acl_args.proofs.request.reach_some_in.Goals as goal
+
+pub returns-in-Some : goal.returns-in-Some
+returns-in-Some c = rw (sym c.value.ensures, c.in-Some.is) c.reach_all_in.ensures
+
+pub returns-in-None : goal.returns-in-None
+returns-in-None c = rw (sym c.value.ensures, c.in-None.is) c.reach_one_in.ensures

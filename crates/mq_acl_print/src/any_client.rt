@@ -1,0 +1,99 @@
+//! Whether a client with any id can be sent something, in words and as JSON.
+use crate::asked_client::{AskedClient, add_client};
+use crate::json::{Datum, add_object};
+use crate::lines::add_line;
+use crate::list::{Line, ListText};
+use crate::placeholders::shown_topic;
+use mq_findings::Difference;
+use mq_topic::LevelText;
+use std::alloc::{AllocError, Global};
+
+// The line that allows it.
+fn line_of<'a>(list: ListText<'a, 'a>, found: &Difference) -> Option<Line<'a>> {
+    let number = found.old_reason.line()?;
+    Some(Line {
+        file: list.file,
+        number,
+        text: list.line(number),
+    })
+}
+
+fn add_json<'a>(
+    alloc: Global,
+    text: &mut String,
+    list: ListText<'a, 'a>,
+    about: (Option<&'a str>, &'a str),
+    found: Option<&'a Difference>,
+) -> Result<(), AllocError> {
+    let (user, wanted) = about;
+    let (client, topic, line, made_up): (_, _, _, &[String]) = match found {
+        Some(found) => (
+            Some(found.client.as_str()),
+            Some(found.topic.text()),
+            line_of(list, found),
+            &found.made_up,
+        ),
+        None => (None, None, None, &[]),
+    };
+    add_object(
+        alloc,
+        text,
+        &[
+            ("client", Datum::TextIf(client)),
+            ("filter", Datum::Text(wanted)),
+            ("line", Datum::LineIf(line)),
+            ("made_up", Datum::Texts(made_up)),
+            ("topic", Datum::TextIf(topic)),
+            ("user", Datum::TextIf(user)),
+        ],
+    )
+}
+
+fn add_found(
+    alloc: Global,
+    text: &mut String,
+    list: ListText<'_, '_>,
+    found: &Difference,
+) -> Result<(), AllocError> {
+    let topic = shown_topic(alloc, found)?;
+    writeln!(text, "{topic}")?;
+    let Some(line) = found.old_reason.line() else {
+        return Ok(());
+    };
+    text.push_str("    ")?;
+    add_line(text, list, line)
+}
+
+fn add_words(
+    alloc: Global,
+    text: &mut String,
+    list: ListText<'_, '_>,
+    about: (Option<&str>, &str),
+    found: Option<&Difference>,
+) -> Result<(), AllocError> {
+    let (user, wanted) = about;
+    add_client(text, AskedClient { id: None, user })?;
+    write!(text, ": {wanted} can be sent ")?;
+    match found {
+        Some(found) => add_found(alloc, text, list, found),
+        None => text.push_str("nothing\n"),
+    }
+}
+
+/// A topic that some client with this user name, or without one, can be sent for a filter, with the line that allows it; or
+/// that none of them can be sent anything. `about` is the user name and the filter.
+pub fn any_text(
+    alloc: Global,
+    list: ListText<'_, '_>,
+    about: (Option<&str>, &str),
+    found: Option<&Difference>,
+    json: bool,
+) -> Result<String, AllocError> {
+    let mut text = String::new(alloc);
+    if json {
+        add_json(alloc, &mut text, list, about, found)?;
+    } else {
+        add_words(alloc, &mut text, list, about, found)?;
+    }
+    Ok(text)
+}

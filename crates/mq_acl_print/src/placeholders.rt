@@ -1,0 +1,83 @@
+//! What stands for others in a difference, as it is shown: `<level>`, `<client id>`, `<user>`.
+use crate::made_up::is_made_up;
+use mq_findings::Difference;
+use mq_topic::LevelText;
+use std::alloc::{AllocError, Global};
+
+// What a text that stands for others is, of which a level of the topic is one.
+#[derive(Clone, Copy)]
+enum Kind {
+    Level,
+    ClientId,
+    User,
+    // Its user name is its client id.
+    Both,
+}
+
+fn is_user(difference: &Difference, text: &str) -> bool {
+    match difference.class.user() {
+        Some(user) => user == text,
+        None => false,
+    }
+}
+
+fn kind_of(difference: &Difference, text: &str) -> Kind {
+    let is_client = text == difference.client.as_str();
+    match (is_client, is_user(difference, text)) {
+        (true, true) => Kind::Both,
+        (true, false) => Kind::ClientId,
+        (false, true) => Kind::User,
+        (false, false) => Kind::Level,
+    }
+}
+
+// Whether it stands for those alone that begin with `$`. Of a client id or a user name this is so at the front of a topic.
+fn is_hidden(level: &str, place: usize, kind: Kind) -> bool {
+    let matters = place == 0 || matches!(kind, Kind::Level);
+    matters && level.starts_with('$')
+}
+
+fn placeholder(kind: Kind, hidden: bool) -> &'static str {
+    match (kind, hidden) {
+        (Kind::Level, false) => "<level>",
+        (Kind::Level, true) => "<$level>",
+        (Kind::ClientId, false) => "<client id>",
+        (Kind::ClientId, true) => "<$client id>",
+        (Kind::User, false) => "<user>",
+        (Kind::User, true) => "<$user>",
+        (Kind::Both, false) => "<client id and user>",
+        (Kind::Both, true) => "<$client id and user>",
+    }
+}
+
+// The level, or what it stands for.
+fn shown_level<'a>(difference: &Difference, place: usize, level: &'a str) -> &'a str {
+    if !is_made_up(difference, level) {
+        return level;
+    }
+    let kind = kind_of(difference, level);
+    placeholder(kind, is_hidden(level, place, kind))
+}
+
+// Adds the client id where it stands for itself alone.
+fn add_client(text: &mut String, difference: &Difference) -> Result<(), AllocError> {
+    let client = difference.client.as_str();
+    if is_made_up(difference, client) {
+        return Ok(());
+    }
+    write!(text, "  client id: {client:?}")
+}
+
+/// The topic of a difference, with what its levels stand for in their places, and the client id where it stands for itself
+/// alone.
+pub fn shown_topic(alloc: Global, difference: &Difference) -> Result<String, AllocError> {
+    let mut text = String::new(alloc);
+    for (place, level) in difference.topic.text().split('/').enumerate() {
+        if place > 0 {
+            text.push('/')?;
+        }
+        text.push_str(shown_level(difference, place, level))?;
+    }
+    add_client(&mut text, difference)?;
+    Ok(text)
+}
