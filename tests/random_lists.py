@@ -7,6 +7,7 @@ import random
 import subprocess
 
 from asked_lists import cases_of, faults_of_notes, faults_of_who, number_of
+from claimed_lists import faults_of_any, faults_of_claims
 from plain_lists import accesses, allowed, deciding, filter_matches, rows_of
 
 PROGRAM = pathlib.Path(__file__).resolve().parent.parent / "bin/mqroute-acl"
@@ -370,6 +371,9 @@ def faults_of_random(rules, folder, count):
             faults_of_script(rules, folder, chance, old),
             faults_of_needless(rules, folder, lines),
             faults_of_who(rules, run, folder, random_filter(chance, True), rows_of(old), CASES,
-                          chance.choice([["-"], ["u1"], ["*"], ["-", "u2", "*"]])))
+                          chance.choice([["-"], ["u1"], ["*"], ["-", "u2", "*"]])),
+            faults_of_claims(rules, run, folder, chance, random_filter, rows_of(old), CASES),
+            faults_of_any(rules, run, folder, chance.choice(USERS), random_filter(chance, True),
+                          rows_of(old), CASES))
         for fault in faults:
             yield f"seed {seed}: {' '.join(rules.words)} {fault}\n{old}\n--\n{new}"

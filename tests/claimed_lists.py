@@ -1,0 +1,127 @@
+"""What mqroute-acl says of what is expected of a list, and of clients with any id, on random small
+lists, beside a test of every client, user and topic of few levels (plain_lists.py)."""
+import json
+import pathlib
+from typing import NamedTuple
+from xml.etree import ElementTree
+
+from asked_lists import number_of
+from plain_lists import Row, allowed, deciding
+
+HOLDS = {"": "every", "some ": "some", "not ": "none"}
+ACCESSES = {"read": ["read"], "write": ["write"], "readwrite": ["read", "write"]}
+
+
+class Claim(NamedTuple):
+    whom: str
+    holds: str
+    access: str
+    wanted: str
+    left_out: tuple[str, ...]
+
+    def line(self):
+        left_out = f" except {', '.join(self.left_out)}" if self.left_out else ""
+        return f"{self.whom} may {self.holds}{self.access} {self.wanted}{left_out}"
+
+
+def random_claim(chance, random_filter):
+    whom = chance.choice(["anyone", "anyone", "anonymous", "others", "u1", "u2"])
+    names = chance.sample(["anonymous", "others", "u1", "u2"], chance.choice([0, 0, 1, 2]))
+    return Claim(whom, chance.choice([*HOLDS]), chance.choice([*ACCESSES]),
+                 random_filter(chance, True), tuple(names if whom == "anyone" else ()))
+
+
+def named_in(rows):
+    return {row.user for row in rows} - {None}
+
+
+def is_one(rows, user, whom):
+    """Whether the client of this user name, or without one, is meant."""
+    kinds = {"anyone": True, "anonymous": user is None,
+             "others": user is not None and user not in named_in(rows)}
+    return kinds.get(whom, user == whom)
+
+
+def is_claimed(rules, rows, claim, client, user, topic):
+    asked = Row(0, True, None, "readwrite", claim.wanted)
+    return (is_one(rows, user, claim.whom)
+            and not any(is_one(rows, user, whom) for whom in claim.left_out)
+            and rules.covers(asked, client, user, topic))
+
+
+def unnamed(rows, claim):
+    """The first user that the claim means or excepts and the list doesn't name."""
+    kinds = {"anyone", "anonymous", "others"} | named_in(rows)
+    return next((whom for whom in (claim.whom, *claim.left_out) if whom not in kinds), None)
+
+
+def faults_of_shown(rules, rows, claim, told):
+    """What is wrong with the client and the topic that show that the claim doesn't hold."""
+    client, user, topic, access = told["client"], told["user"], told["topic"], told["access"]
+    row, _ = deciding(rules, rows, client, user, topic, access)
+    may = allowed(rules, rows, client, user, topic, access)
+    if (not is_claimed(rules, rows, claim, client, user, topic)
+            or access not in ACCESSES[claim.access] or may != (claim.holds == "not ")):
+        yield f"test: {claim.line()}: {told} is no case"
+    if (told["decided"] and told["decided"]["line"]) != number_of(row):
+        yield f"test: {claim.line()}: {told} is decided by {row}"
+
+
+def faults_of_verdict(rules, rows, claim, told, asked_about):
+    """What is wrong with what is said of a claim."""
+    if (told["kind"] == "unnamed") != (unnamed(rows, claim) is not None):
+        yield f"test: {claim.line()}: {told}"
+    if told["kind"] == "fails":
+        yield from faults_of_shown(rules, rows, claim, told)
+    if told["kind"] not in ("holds", "none may"):
+        return
+    cases = [case for case in asked_about if is_claimed(rules, rows, claim, *case)]
+    for access in ACCESSES[claim.access]:
+        if told["kind"] == "none may" and told["words"].split()[4] != access:
+            continue
+        may = {allowed(rules, rows, *case, access) for case in cases}
+        wrong = {"every": False, "none": True}.get(HOLDS[claim.holds])
+        if (True in may if told["kind"] == "none may" else wrong in may):
+            yield f"test: {claim.line()}: {told}, and {access} {may}"
+
+
+def faults_of_claims(rules, run, folder, chance, random_filter, rows, asked_about):
+    claims = [random_claim(chance, random_filter) for _ in range(3)]
+    lines = "".join(claim.line() + "\n" for claim in claims)
+    pathlib.Path(folder, "old.expected").write_text(lines)
+    done = run(["test", *rules.words, "--json", "--junit", "old.xml", "old.expected", "old.acl"],
+               folder)
+    *told, counts = [json.loads(line) for line in done.stdout.splitlines()] or [None]
+    hold = sum(each["holds"] for each in told)
+    if (len(told) != len(claims) or counts != {"expectations": len(claims), "hold": hold}
+            or done.returncode != (0 if hold == len(claims) else 1)):
+        yield f"test: status {done.returncode}: {done.stdout}{done.stderr}{lines}"
+        return
+    for claim, each in zip(claims, told):
+        yield from faults_of_verdict(rules, rows, claim, each, asked_about)
+    suite = ElementTree.parse(pathlib.Path(folder, "old.xml")).find("testsuite")
+    failing = [case.get("name") for case in suite if case.find("failure") is not None]
+    if failing != [each["text"] for each in told if not each["holds"]]:
+        yield f"test --junit: {failing} of {lines}"
+
+
+def faults_of_any(rules, run, folder, user, wanted, rows, asked_about):
+    """Of clients with any id."""
+    named = [] if user is None else [f"--user={user}"]
+    done = run(["reach", *rules.words, "--json", "old.acl", f"--any={wanted}", *named], folder)
+    if user is not None and user not in named_in(rows):
+        if (done.returncode, done.stdout) != (2, ""):
+            yield f"reach --any {wanted}: user {user}: status {done.returncode}: {done.stdout}"
+        return
+    told = json.loads(done.stdout)
+    if done.returncode != (1 if told["topic"] is None else 0) or told["user"] != user:
+        yield f"reach --any {wanted}: status {done.returncode}: {told}"
+    claim = Claim(user or "anonymous", "not ", "read", wanted, ())
+    if told["topic"] is not None:
+        yield from faults_of_shown(rules, rows, claim, told | {"access": "read",
+                                                               "decided": told["line"]})
+        return
+    for case in asked_about:
+        if is_claimed(rules, rows, claim, *case) and allowed(rules, rows, *case, "read"):
+            yield f"reach --any {wanted}: {case} isn't found"
+            return
