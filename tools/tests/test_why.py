@@ -211,6 +211,8 @@ class Why(unittest.TestCase):
                              "line 1: Keyword"),
                             (["script"], "wants SCRIPT and LINE, or --log"),
                             (["--topic=x", "script", "3"], "--topic wants --log"),
+                            (["--session-expiry=0", "script", "3"],
+                             "--session-expiry wants --log"),
                             (["--log=x", "script", "3"], "--log goes without SCRIPT and LINE"),
                             (["--log=x", "--topic=x"], "--log wants --topic and --at"),
                             (["script", "3", "c", "--client=c"], "--client goes without CLIENT")):

@@ -8,6 +8,12 @@ from ..script.sessions import FOREVER
 NAMES = ("time_format", "session_expiry", "no_inference", "begin")
 
 
+def given_options(options: argparse.Namespace, names: tuple[str, ...] = NAMES) -> list[str]:
+    """Those of the options that stand on the command line, as they are written there."""
+    return [f"--{name.replace('_', '-')}" for name in names
+            if getattr(options, name) is not None and getattr(options, name) is not False]
+
+
 def add_log_options(parser: argparse.ArgumentParser) -> None:
     parser.add_argument("--time-format", metavar="FORMAT",
                         help="log_timestamp_format as in mosquitto.conf (seconds, ISO and none are "

@@ -9,7 +9,7 @@ from ..common.exit_status import UsageFault
 from ..common.files import GZIP, STDIN, open_input, plain_file
 from ..log.log_files import Logs
 from ..log.log_to_script import sum_up, write_script
-from ..log.options import NAMES
+from ..log.options import given_options
 from ..script.file_kinds import HEAD, kind
 from .kept_folder import SCRIPT
 
@@ -60,9 +60,8 @@ def sources_of(options: argparse.Namespace, folder: Path) -> list[Source]:
     if any(one.is_script for one in sources):
         if len(sources) > 1:
             raise UsageFault("wants one script, or one log or more")
-        for name in NAMES:
-            if not (getattr(options, name) is None or getattr(options, name) is False):
-                raise UsageFault(f"--{name.replace('_', '-')} wants a log")
+        for name in given_options(options):
+            raise UsageFault(f"{name} wants a log")
     return sources
 
 

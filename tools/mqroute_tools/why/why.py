@@ -13,7 +13,7 @@ import sys
 from ..common.exit_status import UsageFault
 from ..common.files import at, keep_apart, refuse_stdin_twice
 from ..common.option_values import whole_number
-from ..log.options import NAMES, add_log_options
+from ..log.options import NAMES, add_log_options, given_options
 from ..script.access_list import AccessList
 from ..script.oracle import RULES
 from .answering import answered
@@ -54,9 +54,8 @@ def look_at_options(options: argparse.Namespace) -> None:
     elif options.line is None:
         raise UsageFault("wants SCRIPT and LINE, or --log")
     else:
-        for name in OF_LOG:
-            if getattr(options, name):
-                raise UsageFault(f"--{name.replace('_', '-')} wants --log")
+        for name in given_options(options, OF_LOG):
+            raise UsageFault(f"{name} wants --log")
     files = [options.script, options.acl_file, options.begin, *(options.log or ())]
     refuse_stdin_twice(files)
     keep_apart(files)
