@@ -65,6 +65,10 @@ class Sessions(unittest.TestCase):
     def test_why(self):
         self.check("Why was this client sent it, or not?", 3, left_out="")
 
+    @unittest.skipUnless(ACL_PROGRAM.exists(), f"there is no {ACL_PROGRAM}")
+    def test_ci(self):
+        self.check("In the CI of an access list", 1)
+
     @unittest.skipUnless(JQ, "there is no jq")
     def test_recipes(self):
         self.check("Recipes", 6)
