@@ -1,0 +1,7 @@
+mod ArrowLemmas
+mod JoinLemmas
+mod SideLemmas
+mod LoopLemmas
+mod PlaceLemmas
+mod RenameLemmas
+mod OwnLemmas
