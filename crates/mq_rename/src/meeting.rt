@@ -1,5 +1,5 @@
 //! The filter that two filters have in common.
-ghost use Rattle.std.specs.Prelude.{◌≡◌, ℕ, List, true, Some, None, ◌&&◌, ◌||◌, IfOk, IfErr};
+ghost use Rattle.std.specs.Prelude.{◌≡◌, ℕ, List, true, Some, None, ◌&&◌, ◌||◌, IfOk, IfErr, IfSome};
 ghost use Rattle.std.specs.Prelude.{if◌then◌else◌};
 ghost use Rattle.std.specs.Option.{option_copied, option_map};
 ghost use Rattle.mq_topic.specs.Levels.{levels, levels_left};
@@ -86,6 +86,8 @@ pub fn meet(
 ) -> Result<Option<TopicFilter>, MeetFault>
     ensures same { IfOk result (λ met. (n : List ℕ) → is_name n ≡ true → matches_if_any met n
         ≡ (matches (levels a.now) (levels n) && matches (levels b.now) (levels n))) }
+    ensures long { IfOk result (λ met. IfSome met (λ f. has_long (levels f) ≡ true
+        → (has_long (levels a.now) || has_long (levels b.now)) ≡ true)) }
     ensures fault { IfErr result (λ fault.
         IsFault fault (has_long (levels a.now) || has_long (levels b.now))) }
 {

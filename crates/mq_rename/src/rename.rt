@@ -1,5 +1,5 @@
 ghost use Rattle.std.specs.Prelude.{◌≡◌, ℕ, List, Bool, true, Some, None, ◌&&◌, ◌||◌, not, ◌==◌, length};
-ghost use Rattle.std.specs.Prelude.{IfOk, IfErr, if◌then◌else◌};
+ghost use Rattle.std.specs.Prelude.{IfOk, IfErr, IfSome, if◌then◌else◌};
 ghost use Rattle.std.specs.List.{list_all, zip};
 ghost use Rattle.mq_topic.specs.Levels.{levels};
 ghost use Rattle.mq_topic.specs.Matching.{ends_with_hash, is_wildcard, level_at, matches};
@@ -155,6 +155,8 @@ impl Rename {
     pub fn cut(&self, alloc: Global, filter: &TopicFilter) -> Result<Option<TopicFilter>, MeetFault>
         ensures same { IfOk result (λ cut. (n : List ℕ) → is_name n ≡ true → matches_if_any cut n
             ≡ (matches (levels self.now.left) (levels n) && matches (levels filter.now) (levels n))) }
+        ensures long { IfOk result (λ cut. IfSome cut (λ f. has_long (levels f) ≡ true
+            → (has_long (levels self.now.left) || has_long (levels filter.now)) ≡ true)) }
         ensures fault { IfErr result (λ fault.
             IsFault fault (has_long (levels self.now.left) || has_long (levels filter.now))) }
     {
@@ -173,6 +175,8 @@ impl Rename {
             → matches_if_any back n ≡ matches (levels filter.now) (levels m)) }
         ensures renamed { IfOk result (λ back. (n : List ℕ) → is_name n ≡ true
             → matches_if_any back n ≡ true → matches (levels self.now.left) (levels n) ≡ true) }
+        ensures long { IfOk result (λ back. IfSome back (λ f. has_long (levels f) ≡ true
+            → (has_long (levels self.now.left) || has_long (levels filter.now)) ≡ true)) }
         ensures fault { IfErr result (λ fault.
             IsFault fault (has_long (levels self.now.left) || has_long (levels filter.now))) }
     {

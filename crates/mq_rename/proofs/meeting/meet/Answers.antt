@@ -1,6 +1,7 @@
 use Rattle.std.proofs.Common.{◌≡◌, List, ℕ, Bool, Option, Some, None, inl, inr, ap, sym, ◌∙◌}
 use Rattle.std.proofs.Common.{◌||◌, true, false}
 use Rattle.std.specs.Option.{option_map}
+use Rattle.std.proofs.lemmas.Option.{IfSome_then}
 use Rattle.std.proofs.lemmas.Result.{IfOk-weaker, MatchResult-weaker}
 use Rattle.mq_topic.specs.Levels.{levels}
 use Rattle.mq_topic.specs.Matching.{is_hidden}
@@ -79,3 +80,11 @@ returns-clause-fault c =
     (λ fault told. fault_by fault (has_long (texts c.deref.result.now))
     (has_long (levels c.args.a.now) || has_long (levels c.args.b.now))
     (met_is_long c.args.a.now c.args.b.now _ is) told)
+
+pub returns-clause-long : goal.returns-clause-long
+returns-clause-long c =
+    let is = met (goal.at.returns-clause-long c).After-deref in
+    IfOk-weaker c.filter_of.result _ _
+    (λ found long. IfSome_then found long
+    (λ f more h. met_is_long c.args.a.now c.args.b.now _ is (more h)))
+    c.filter_of.ensures.long
