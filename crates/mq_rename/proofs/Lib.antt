@@ -1,9 +1,9 @@
-mod FitLemmas
-mod JoinLemmas
-mod MatchLemmas
-mod MeetLemmas
-mod MetLemmas
-mod ReachLemmas
-mod BindLemmas
-mod BoundLemmas
-mod BackLemmas
+pub mod FitLemmas
+pub mod JoinLemmas
+pub mod MatchLemmas
+pub mod MeetLemmas
+pub mod MetLemmas
+pub mod ReachLemmas
+pub mod BindLemmas
+pub mod BoundLemmas
+pub mod BackLemmas

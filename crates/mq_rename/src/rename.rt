@@ -173,6 +173,7 @@ impl Rename {
         ensures same { IfOk result (λ back. (n m : List ℕ) → is_name n ≡ true
             → new_name self.now n ≡ Some m
             → matches_if_any back n ≡ matches (levels filter.now) (levels m)) }
+        ensures rule { is_rename self.now.left self.now.right self.now.places ≡ true }
         ensures renamed { IfOk result (λ back. (n : List ℕ) → is_name n ≡ true
             → matches_if_any back n ≡ true → matches (levels self.now.left) (levels n) ≡ true) }
         ensures long { IfOk result (λ back. IfSome back (λ f. has_long (levels f) ≡ true

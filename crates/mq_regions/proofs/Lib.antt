@@ -1,0 +1,16 @@
+mod ReadLemmas
+mod StandLemmas
+mod NameLemmas
+mod CoverLemmas
+mod CarriedLemmas
+mod LedLemmas
+mod ExactLemmas
+mod FillLemmas
+mod MadeLemmas
+mod GroupLemmas
+mod PatternLemmas
+mod LineLemmas
+mod LimitLemmas
+mod CarryLemmas
+mod TextLemmas
+mod StepLemmas
