@@ -36,6 +36,8 @@ check: programs
 	tests/acl_rows.py
 	tests/program.py
 	tests/memory.sh
+	tests/costs.py
+	python3 -m unittest discover -s tests
 	tests/unbuffered.py
 	tests/build.py
 	tests/acl.py

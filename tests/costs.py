@@ -1,0 +1,171 @@
+#!/usr/bin/env python3
+"""Counts what commands cost the built program, and refuses more than is promised.
+
+usage: costs.py [-v] [PROGRAM]. It counts instructions, blocks of memory and bytes (costs.c), and
+no seconds: the counts are the same beside any load, and much the same on any machine. With -v all
+of them are shown.
+
+- Beside 10,000 things of each kind that a command has nothing to do with it takes about what it
+  takes beside 100: no walk over sessions, trees or lists, and no index that is made anew.
+- What is kept, and what a command concerns, takes a bounded number of bytes for each.
+- The copies of a message share its payload.
+- Commands that end things take no memory for it.
+- Commands that concern many thousands of things aren't refused for want of memory.
+"""
+import concurrent.futures
+import itertools
+import os
+import pathlib
+import sys
+import tempfile
+
+import costs_concerned as concerned
+import costs_scripts as scripts
+from costs_counter import Counter, Failed
+from costs_judge import FEW, MANY, MORE_INSTRUCTIONS, at_most, for_each, middle, more_beside
+from costs_judge import no_more
+from faults import is_absent, status_of
+
+TOP = pathlib.Path(__file__).resolve().parent.parent
+PROGRAM = TOP / "bin/mqroute"
+# Beside few things no command takes as many instructions.
+MOST_INSTRUCTIONS = 100_000
+# How many things a command concerns; how many copies of a long payload there are; how many things
+# are kept. Each is measured with so many, and with twice as many.
+SOME, COPIES, KEPT = 500, 20, 4_000
+# A piece of the script is read at a time, 64 KiB of it; with as much again for lists.
+MOST_AT_START = 300_000
+
+
+def at_once(work, cases):
+    """The results of the cases, in their order, as many at a time as there are processors."""
+    with concurrent.futures.ThreadPoolExecutor(os.cpu_count()) as workers:
+        return list(workers.map(lambda case: work(*case), cases))
+
+
+def answered(name, answers, copies, closing):
+    """Stops where a line isn't answered as it should be, since its cost would say nothing. The line
+    that answers a stat has neither a reason nor a refusal."""
+    last = answers[-1] if answers else {"refused": "nothing"}
+    if len(answers) != copies + 1 or last.get("refused", last.get("reason", 0)) != closing:
+        raise Failed(f"{name} is answered by {len(answers)} lines, the last {last}")
+
+
+def beside(counter, kinds, n, most, times=scripts.TIMES):
+    """What each command costs beside n things of each of these kinds, given so many times; of its
+    instructions so many are counted."""
+    before = [*scripts.prepared(), *(line for kind in kinds for line in scripts.THINGS[kind](n))]
+    turns = [(command, turn) for command in scripts.COMMANDS for turn in range(times)]
+    rows = scripts.access_list(n if "users of the access list" in kinds else 0)
+    run = counter.run(before, [command.line(turn) for command, turn in turns], rows,
+                      scripts.options(kinds, n), [most[command.name] for command, _ in turns])
+    for (command, _), answers in zip(turns, run.answers):
+        answered(command.name, answers, command.copies, command.closing)
+    return {command.name: middle(run.costs[at * times:(at + 1) * times])
+            for at, command in enumerate(scripts.COMMANDS)}
+
+
+def by_kind(counter, few, most, grown):
+    """Which kind of thing it is beside which these commands grow."""
+    kinds = list(scripts.THINGS)
+    alone = at_once(beside, [(counter, [kind], MANY, most, 1) for kind in kinds])
+    return [check for kind, costs in zip(kinds, alone) for name in grown
+            for check in more_beside(name, kind, few[name], costs[name]) if check.is_over()]
+
+
+def growth(counter):
+    """Each command beside few and beside many. There it is counted until it has taken too much, so
+    that a walk over all of them doesn't take long here."""
+    kinds = list(scripts.THINGS)
+    few = beside(counter, kinds, FEW, dict.fromkeys(scripts.NAMES, MOST_INSTRUCTIONS))
+    if not any(cost.instructions for cost in few.values()):
+        print("costs: instructions are left out: the processor doesn't stop at each of them here")
+    most = {name: cost.instructions + MORE_INSTRUCTIONS + 1 for name, cost in few.items()}
+    many = beside(counter, kinds, MANY, most)
+    checks = {name: [at_most(f"{name} beside {FEW} things of each kind", "instructions", cost,
+                             MOST_INSTRUCTIONS - 1),
+                     *more_beside(name, "things of each kind", cost, many[name])]
+              for name, cost in few.items()}
+    grown = [name for name, made in checks.items() if any(check.is_over() for check in made)]
+    return [*itertools.chain(*checks.values()),
+            *(by_kind(counter, few, most, grown) if grown else []),
+            *(no_more(name, few[refused], few[name]) for name, refused in scripts.WITHOUT_MEMORY)]
+
+
+def cost_of(counter, name, script, copies, long=0):
+    """What a command costs behind what it concerns."""
+    before, line = script
+    run = counter.run(before, [line], options=["--max-queued", str(len(before))], long=long)
+    answered(name, run.answers[0], copies, 0)
+    return run.costs[0]._replace(held=run.costs[0].held - run.before.held)
+
+
+def concern(counter, one):
+    """A command that concerns some things, and one that concerns twice as many."""
+    few, many = (cost_of(counter, one.name, one.script(n), one.copies(n))
+                 for n in (SOME, 2 * SOME))
+    return [for_each(one.name, kind, few, many, SOME, most) for kind, most in one.bounds.items()]
+
+
+def payload(counter, name, script, copies, most):
+    """The blocks of a payload's length that each copy takes."""
+    few, many = (cost_of(counter, name, script(n, payload=concerned.LONG), copies(n),
+                         long=len(concerned.LONG)) for n in (COPIES, 2 * COPIES))
+    return [for_each(f"{name} with a long payload", "long_blocks", few, many, COPIES, most)]
+
+
+def kept(counter, kind, most):
+    """What each thing of a kind takes, while it is kept and while it comes."""
+    few, many = (counter.run([scripts.line("connect", "client-0"), *scripts.THINGS[kind](n)],
+                             rows=scripts.access_list(n) if "list" in kind else None,
+                             options=scripts.options([kind], n)).before for n in (KEPT, 2 * KEPT))
+    return [for_each(kind, "room", few, many, KEPT, most)]
+
+
+def start(counter):
+    """What the program takes before it reads a line."""
+    return [at_most("before the first line", "room", counter.run([]).before, MOST_AT_START)]
+
+
+def large(counter, one):
+    """Where a command concerns many thousands of things, it isn't refused memory."""
+    n = concerned.LARGE[one.script]
+    cost_of(counter, f"{one.name}, {n:,} of them,", one.script(n), one.copies(n))
+    return []
+
+
+def parts():
+    """What is checked: a function, and what it is given behind the counter."""
+    yield growth,
+    yield start,
+    yield from ((concern, one) for one in concerned.CONCERNS)
+    yield from ((payload, *one) for one in concerned.PAYLOADS)
+    yield from ((kept, *one) for one in concerned.KEPT.items())
+    yield from ((large, one) for one in concerned.CONCERNS)
+
+
+def checked(counter, part, *given):
+    """What comes of a part; what fails in it is a text."""
+    try:
+        return part(counter, *given)
+    except Failed as failed:
+        return [f"{part.__name__}: {failed}"]
+
+
+def main():
+    words = [word for word in sys.argv[1:] if word != "-v"]
+    program = pathlib.Path(words[0]) if words else PROGRAM
+    if is_absent("costs", program):
+        return 1
+    with tempfile.TemporaryDirectory() as folder:
+        counter = Counter(program, folder)
+        found = [one for many in at_once(checked, [(counter, *part) for part in parts()])
+                 for one in many]
+    if "-v" in sys.argv:
+        print(*found, sep="\n")
+    faults = [one for one in found if isinstance(one, str) or one.is_over()]
+    return status_of("costs", faults, f"{len(found)} counts checked, {len(faults)} faults")
+
+
+if __name__ == "__main__":
+    sys.exit(main())

@@ -1,0 +1,141 @@
+"""Scripts of commands that concern many things, and of things that are kept (costs.py)."""
+from typing import Callable, NamedTuple
+
+from costs_scripts import FOREVER, away, line, publish, retain, subscribe
+
+LONG = "x" * 10_000
+
+
+def receivers(n, **fields):
+    """Clients that subscribe to one filter, and a publish to them."""
+    before = [part for i in range(n) for part in
+              (line("connect", f"client-{i}"), subscribe("site/+", f"client-{i}", qos=1))]
+    return before, publish("site/1", qos=1, **fields)
+
+
+def sleepers(n, **fields):
+    """The same clients, that are away."""
+    before = [line("connect", "client-0")]
+    for i in range(n):
+        before += away(f"away-{i}", FOREVER, subscribe("site/+", f"away-{i}", qos=1))
+    return before, publish("site/1", qos=1, **fields)
+
+
+def served_groups(n, **fields):
+    before = [line("connect", "client-0"),
+              *(subscribe(f"$share/crew-{i}/site/1", qos=1) for i in range(n))]
+    return before, publish("site/1", qos=1, **fields)
+
+
+def members(n):
+    """The members of one group."""
+    before = [part for i in range(n) for part in
+              (line("connect", f"client-{i}"), subscribe("$share/crew/site/1", f"client-{i}"))]
+    return before, publish("site/1")
+
+
+def matching_filters(n):
+    """Filters of one client that all match one topic, each with an identifier."""
+    levels = n.bit_length()
+    filters = ("/".join("+" if number >> level & 1 else "a" for level in range(levels))
+               for number in range(n))
+    before = [line("connect", "client-0"),
+              *(subscribe(filter, id=number + 1) for number, filter in enumerate(filters))]
+    return before, publish("/".join("a" * levels))
+
+
+def retained(n, **fields):
+    before = [line("connect", "client-0"), *(retain(f"site/{i}", **fields) for i in range(n))]
+    return before, subscribe("#")
+
+
+def waiting(n, **fields):
+    before = [line("connect", "client-0"), *away("back", FOREVER, subscribe("site", "back", qos=1)),
+              *(publish("site", qos=1, **fields) for i in range(n))]
+    return before, line("connect", "back", clean=False, session_expiry=FOREVER)
+
+
+def rows(n):
+    text = "".join(f"topic read area/{i}/+\n" for i in range(n))
+    return [line("acl", text="topic read #\n")], line("acl", text=text)
+
+
+def own_subscriptions(n):
+    """The disconnect of a client ends so many subscriptions."""
+    before = [line("connect", "client-0"),
+              *(subscribe(f"site/{i}", qos=1) for i in range(n // 2)),
+              *(subscribe(f"$share/crew/site/{i}", qos=1) for i in range(n - n // 2))]
+    return before, line("disconnect", "client-0")
+
+
+def ends(n):
+    """An advance ends so many sessions, each with a subscription, and so many messages."""
+    before = [line("connect", "client-0")]
+    for i in range(n):
+        before += away(f"away-{i}", 1, subscribe(f"site/{i}", f"away-{i}", qos=1))
+        before.append(retain(f"kept/{i}", expiry=1))
+    return before, line("advance", seconds=1)
+
+
+def counted(n):
+    """So many subscriptions and messages, and their count, which walks over them."""
+    before = [line("connect", "client-0"), *(subscribe(f"site/{i}") for i in range(n)),
+              *(retain(f"kept/{i}") for i in range(n))]
+    return before, line("stat")
+
+
+def each(n):
+    return n
+
+
+def one(n):
+    return 1
+
+
+def none(n):
+    return 0
+
+
+class Concern(NamedTuple):
+    """A command behind the things that it concerns: how many copies answer it, and what it may take
+    for each thing, by kind of count: some twice of what it takes."""
+    name: str
+    script: Callable[..., tuple[list[bytes], bytes]]
+    copies: Callable[[int], int]
+    bounds: dict[str, float]
+
+
+# At one time the copies are held, and the answer's text with as much room again: a list that is
+# full gets twice the room.
+CONCERNS = [
+    Concern("a publish to clients", receivers, each, {"room": 400}),
+    Concern("a publish that waits for clients", sleepers, none, {"room": 600, "held": 250}),
+    Concern("a publish to groups", served_groups, each, {"room": 450}),
+    Concern("a publish to members of a group", members, one, {"room": 10}),
+    Concern("a publish that filters match", matching_filters, one, {"room": 100}),
+    Concern("a subscribe that is sent retained messages", retained, each, {"room": 600}),
+    Concern("a connect that is sent waiting copies", waiting, each, {"room": 400}),
+    Concern("an access list of rows", rows, none, {"room": 450, "held": 250}),
+    Concern("a disconnect that ends subscriptions", own_subscriptions, none, {"blocks": 0}),
+    Concern("an advance that ends sessions and messages", ends, none, {"blocks": 0}),
+    Concern("a stat of subscriptions and messages", counted, none, {"blocks": 0}),
+]
+
+# How many blocks of the length of a long payload each copy may take. The text that is printed is
+# one; a retained message's payload is copied out of the tree. Halves are for what happens at times.
+PAYLOADS = [("a publish to clients", receivers, each, 1.5),
+            ("a publish to groups", served_groups, each, 1.5),
+            ("a publish that waits for clients", sleepers, none, 0.5),
+            ("a subscribe that is sent retained messages", retained, each, 2.5),
+            ("a connect that is sent waiting copies", waiting, each, 1.5)]
+
+# So many things as no other test has at once.
+LARGE = {receivers: 20_000, sleepers: 20_000, served_groups: 20_000, members: 20_000,
+         matching_filters: 16_384, retained: 100_000, waiting: 100_000, rows: 40_000,
+         own_subscriptions: 20_000, ends: 20_000, counted: 20_000}
+
+# How many bytes each thing takes that is kept, some twice of what it takes: with the tables that it
+# stands in, which double at times, and two levels of the tree of its own.
+KEPT = {"sessions connected": 500, "sessions away": 600, "clients that came back": 700,
+        "subscriptions": 2_500, "groups": 5_000, "members of a group that are away": 1_300,
+        "retained messages": 700, "waiting copies": 500, "users of the access list": 6_500}
