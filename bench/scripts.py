@@ -13,6 +13,11 @@ others OTHERS PUBLISHES       publishes to 5 subscribers beside OTHERS subscript
 overlapping PUBLISHES         publishes to 5 subscribers, each by three filters with identifiers
 groups GROUPS PUBLISHES       publishes to one of GROUPS shared subscriptions
 leaving FILTERS LEAVES        a client that subscribes to FILTERS filters and leaves LEAVES of them
+returning CLIENTS TURNS       CLIENTS clients that connect, that leave where TURNS is 2 or more, and
+                              that come back where it is 3
+refused PUBLISHES             publishes of a client that isn't connected
+receivers CLIENTS PUBLISHES   publishes to CLIENTS subscribers of one filter
+members COUNT AWAY PUBLISHES  publishes to a group of COUNT members, of which AWAY are away
 retained TOPICS SUBSCRIBES    subscribes of which each is sent 10 of TOPICS retained messages
 expiring TOPICS ADVANCES      advances of which each ends 10 retained messages, beside TOPICS that
                               stay
@@ -20,6 +25,7 @@ lasting TOPICS CLIENTS        CLIENTS clients that are each sent 10 of TOPICS re
                               as many advances, which end all those messages
 sessions AWAY PUBLISHES       publishes to 5 subscribers, of which two are away, beside AWAY clients
                               that are away
+all TOPICS SUBSCRIBES         subscribes of which each is sent all of TOPICS retained messages
 resuming AWAY RESUMES         clients of AWAY, for each of which 1,000 copies wait, that come back
 """
 import json
@@ -118,13 +124,56 @@ def leaving(count, leaves):
         line(do="unsubscribe", client="client", filter=f"area/{i * 7919 % count}/state")
 
 
-def retained(topics, subscribes):
+def returning(clients, turns):
+    for turn in ("connect", "disconnect", "connect")[:turns]:
+        for i in range(clients):
+            options = {"clean": False, "session_expiry": 3600} if turn == "connect" else {}
+            line(do=turn, client=f"client-{i}", **options)
+
+
+def refused(publishes):
+    line(do="connect", client="client")
+    for i in range(publishes):
+        line(do="publish", client="nobody", topic="site/7/temperature", payload="x" * 100)
+
+
+def receivers(clients, publishes):
+    line(do="connect", client="sensor")
+    for i in range(clients):
+        line(do="connect", client=f"client-{i}")
+        line(do="subscribe", client=f"client-{i}", filter="site/+/temperature", qos=1)
+    for i in range(publishes):
+        line(do="publish", client="sensor", topic=f"site/{i}/temperature", payload=f"v={i}", qos=1)
+
+
+def members(count, away, publishes):
+    line(do="connect", client="sensor")
+    for i in range(count):
+        line(do="connect", client=f"worker-{i}", session_expiry=3600)
+        line(do="subscribe", client=f"worker-{i}", filter="$share/crew/job/7", qos=1)
+    for i in range(away):
+        line(do="disconnect", client=f"worker-{i}")
+    for i in range(publishes):
+        line(do="publish", client="sensor", topic="job/7", payload=f"v={i}", qos=1)
+
+
+def retained_topics(topics):
     line(do="connect", client="client")
     for i in range(topics):
         line(do="publish", client="client", topic=f"area/{i // 10}/{i % 10}", payload="on",
              retain=True)
+
+
+def retained(topics, subscribes):
+    retained_topics(topics)
     for i in range(subscribes):
         line(do="subscribe", client="client", filter=f"area/{i % 100}/+")
+
+
+def all_retained(topics, subscribes):
+    retained_topics(topics)
+    for i in range(subscribes):
+        line(do="subscribe", client="client", filter="#")
 
 
 def expiring(topics, advances):
@@ -181,5 +230,6 @@ def resuming(away, resumes):
 kinds = {"overlapping": overlapping, "lasting": lasting, "sessions": sessions, "resuming": resuming,
          "five": five, "big": big, "users": users, "userlist": user_list,
          "rules": rules, "list": access_list, "others": others, "groups": groups,
-         "leaving": leaving, "retained": retained, "expiring": expiring}
+         "leaving": leaving, "retained": retained, "expiring": expiring, "returning": returning,
+         "refused": refused, "receivers": receivers, "members": members, "all": all_retained}
 kinds[sys.argv[1]](*(int(n) for n in sys.argv[2:]))
