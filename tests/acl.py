@@ -8,6 +8,7 @@ import pathlib
 import sys
 import tempfile
 
+from coloured import faults_of_colours
 from faults import is_absent, status_of
 from plain_lists import MosquittoRules, OwnRules
 from random_lists import PROGRAM, faults_of_known_pairs, faults_of_random, no_command, run
@@ -211,6 +212,13 @@ MISUSED = [
     (["reach", "current.acl", "--script", "proposed.acl"],
      "mqroute-acl: proposed.acl: no line of 15 is a command\n"),
     (["reach", "current.acl", "--script", "-"], "mqroute-acl: -: no line of 0 is a command\n"),
+    (["compare", "current.acl", "proposed.acl", "--script", "nowhere.jsonl"],
+     f"mqroute-acl: nowhere.jsonl: {NO_FILE}\n"),
+    (["compare", "current.acl", "proposed.acl", "--script", "current.acl"],
+     "mqroute-acl: current.acl: no line of 16 is a command\n"),
+    (["compare", "current.acl", "-", "--script", "-"], "standard input can be only one"),
+    (["who", "current.acl", "#", "--script", "."], f"mqroute-acl: .: {A_FOLDER}\n"),
+    (["who", "-", "#", "--script", "-"], "standard input can be only one"),
 ]
 
 
@@ -369,7 +377,8 @@ def main():
     with tempfile.TemporaryDirectory() as folder:
         faults = [*faults_of_walk(), *faults_of_input(), *faults_of_remarks(folder),
                   *faults_of_several(folder), *faults_of_refusals(folder),
-                  *faults_of_odd_scripts(folder), *faults_of_logs(folder)]
+                  *faults_of_odd_scripts(folder), *faults_of_logs(folder),
+                  *faults_of_colours(folder)]
         for rules in (OwnRules, MosquittoRules):
             faults += faults_of_known_pairs(rules, folder)
             faults += faults_of_random(rules, folder, count)

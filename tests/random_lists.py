@@ -8,6 +8,7 @@ import subprocess
 
 from asked_lists import cases_of, faults_of_notes, faults_of_who, number_of
 from claimed_lists import faults_of_any, faults_of_claims
+from counted_publishes import faults_of_counts
 from plain_lists import accesses, allowed, deciding, filter_matches, rows_of
 
 PROGRAM = pathlib.Path(__file__).resolve().parent.parent / "bin/mqroute-acl"
@@ -374,6 +375,8 @@ def faults_of_random(rules, folder, count):
                           chance.choice([["-"], ["u1"], ["*"], ["-", "u2", "*"]])),
             faults_of_claims(rules, run, folder, chance, random_filter, rows_of(old), CASES),
             faults_of_any(rules, run, folder, chance.choice(USERS), random_filter(chance, True),
-                          rows_of(old), CASES))
+                          rows_of(old), CASES),
+            faults_of_counts(rules, run, folder, chance, TOPICS, random_filter(chance, True),
+                             [rows_of(old), rows_of(new)], CASES))
         for fault in faults:
             yield f"seed {seed}: {' '.join(rules.words)} {fault}\n{old}\n--\n{new}"

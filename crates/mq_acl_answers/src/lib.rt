@@ -10,6 +10,7 @@ mod notes;
 mod otherwise;
 mod outcome;
 mod printing;
+mod traffic;
 
 pub use commands::compare::{Changes, find_changes, tell_changes};
 pub use commands::lint::{Remarks, add_lint, find_remarks};
@@ -24,3 +25,4 @@ pub use notes::add_who_limit;
 pub use otherwise::add_otherwise;
 pub use outcome::Outcome;
 pub use printing::{print, print_outcome};
+pub use traffic::find_traffic;

@@ -22,12 +22,12 @@ use Rattle.mq_args.specs.Arguments.{several_arguments, rule_for, with_rules}
 use Rattle.mq_args.specs.Numbers.{number_in}
 use Rattle.mq_args.specs.declared.usage.UsageFault.{UsageFault}
 use Rattle.mq_args.specs.declared.usage.UsageFault.TheVariants.{Help, Usage, Memory}
-use Rattle.mq_acl_args.specs.Files.{input_count}
+use Rattle.mq_acl_args.specs.Files.{input_count, script_file}
 use Rattle.mq_acl_args.specs.declared.command_line.Subcommand.{Subcommand}
 use Rattle.mq_acl_args.specs.declared.request.Request.{Request}
 use Rattle.mq_acl_args.specs.declared.client.Client.{Client}
-use Rattle.mq_acl_args.specs.declared.request.Question.{Question}
-use Rattle.mq_acl_args.specs.declared.request.Question.TheVariants as asks
+use Rattle.mq_acl_args.specs.declared.question.Question.{Question}
+use Rattle.mq_acl_args.specs.declared.question.Question.TheVariants as asks
 
 abbrev pub app_for : Subcommand → App
 app_for subcommand =
@@ -78,12 +78,12 @@ any_option = option (codes "any")
 abbrev pub junit_option : Rule
 junit_option = option (codes "junit")
 
--- `compare OLD NEW [--only WAY] [--steps N] [--rules RULES] [--json]`
+-- `compare OLD NEW [--only WAY] [--script SCRIPT] [--steps N] [--rules RULES] [--json]`
 abbrev pub compare : App
 compare =
     with_rules (new_app (codes "compare"))
     (required_argument (codes "OLD") ∷ json_flag ∷ required_argument (codes "NEW")
-    ∷ only_option ∷ steps_option ∷ rules_option ∷ [])
+    ∷ only_option ∷ script_option ∷ steps_option ∷ rules_option ∷ [])
 
 -- `why FILE CLIENT TOPIC [--user NAME] [--may ACCESS] [--rules RULES] [--json]`
 abbrev pub why : App
@@ -106,12 +106,12 @@ reach =
     ∷ optional_argument (codes "FILTER") ∷ any_option ∷ user_option ∷ script_option
     ∷ steps_option ∷ rules_option ∷ [])
 
--- `who FILE FILTER [--access ACCESS] [--only USERS] [--steps N] [--rules RULES] [--json]`
+-- `who FILE FILTER [--access ACCESS] [--only USERS] [--script SCRIPT] [--steps N] [--rules RULES] [--json]`
 abbrev pub who : App
 who =
     with_rules (new_app (codes "who"))
     (required_argument (codes "FILE") ∷ json_flag ∷ required_argument (codes "FILTER")
-    ∷ access_option ∷ only_option ∷ steps_option ∷ rules_option ∷ [])
+    ∷ access_option ∷ only_option ∷ script_option ∷ steps_option ∷ rules_option ∷ [])
 
 -- `test EXPECTED [LIST..] [--junit JUNIT] [--steps N] [--rules RULES] [--json]`
 abbrev pub test : App
@@ -137,13 +137,13 @@ pub record ClientAsked : Type 0 where
   pub user : Option Text
 
 pub data Asked : Type 0 where
-  Compare : (old new : Text) (only : Option Way) → Asked
+  Compare : (old new : Text) (only : Option Way) (script : Option Text) → Asked
   Why : (file : Text) (client : ClientAsked) (topic : Text) (may : Option Direction) → Asked
   Lint : (files : List Text) → Asked
   Reach : (file : Text) (client : ClientAsked) (filter : Text) → Asked
   ReachAny : (file : Text) (user : Option Text) (wanted : Text) → Asked
   ReachAll : (file script : Text) → Asked
-  Who : (file wanted : Text) (access : Option Direction) (only : Option Text) → Asked
+  Who : (file wanted : Text) (access : Option Direction) (only script : Option Text) → Asked
   Test : (expected : Text) (lists : List Text) (junit : Option Text) → Asked
 
 abbrev pub way_named : Text → Option Way
@@ -157,13 +157,15 @@ way_asked rows =
     option_map_or (λ word. option_map Some (way_named word)) (first_of (codes "only") rows)
     (Some None)
 
-abbrev pub compare_asked : (old new : Option Text) → Option (Option Way) → Option Asked
-compare_asked (Some old) (Some new) (Some only) = Some (Compare old new only)
-compare_asked old new only = None
+abbrev pub compare_asked : (old new : Option Text) → Option (Option Way) → (script : Option Text)
+    → Option Asked
+compare_asked (Some old) (Some new) (Some only) script = Some (Compare old new only script)
+compare_asked old new only script = None
 
 abbrev pub compare_asked_by : List Row → Option Asked
 compare_asked_by rows =
     compare_asked (first_of (codes "OLD") rows) (first_of (codes "NEW") rows) (way_asked rows)
+    (first_of (codes "script") rows)
 
 abbrev pub lint_asked : (files : Option (List Text)) → Option Asked
 lint_asked files = option_map Lint files
@@ -222,14 +224,16 @@ reach_asked_by rows =
     (first_of (codes "any") rows)
 
 abbrev pub who_asked : (file wanted : Option Text) → Option (Option Direction)
-    → (only : Option Text) → Option Asked
-who_asked (Some file) (Some wanted) (Some access) only = Some (Who file wanted access only)
-who_asked file wanted access only = None
+    → (only script : Option Text) → Option Asked
+who_asked (Some file) (Some wanted) (Some access) only script =
+    Some (Who file wanted access only script)
+who_asked file wanted access only script = None
 
 abbrev pub who_asked_by : List Row → Option Asked
 who_asked_by rows =
     who_asked (first_of (codes "FILE") rows) (first_of (codes "FILTER") rows)
     (access_asked (codes "access") rows) (first_of (codes "only") rows)
+    (first_of (codes "script") rows)
 
 -- of a file of expectations, and the lists that are given, if some are
 abbrev pub test_asked : (expected : Option Text) → (lists : Option (List Text))
@@ -281,7 +285,8 @@ abbrev pub client_view : Client → ClientAsked
 client_view client = record { id = client.id.now; user = option_copied client.user }
 
 abbrev pub question_view : Question → Asked
-question_view (asks.Compare old new only) = Compare old.now new.now only
+question_view (asks.Compare old new only script) =
+    Compare old.now new.now only (option_copied script)
 question_view (asks.Why file client topic may) =
     Why file.now (client_view client) topic.now may
 question_view (asks.Lint files) = Lint (map (λ file. file.now) files.items)
@@ -289,8 +294,8 @@ question_view (asks.Reach file client filter) = Reach file.now (client_view clie
 question_view (asks.ReachAny file user wanted) =
     ReachAny file.now (option_copied user) wanted.now
 question_view (asks.ReachAll file script) = ReachAll file.now script.now
-question_view (asks.Who file wanted selection) =
-    Who file.now wanted.now selection.access (option_copied selection.only)
+question_view (asks.Who file wanted selection script) =
+    Who file.now wanted.now selection.access (option_copied selection.only) (option_copied script)
 question_view (asks.Test expected lists junit) =
     Test expected.now (map (λ file. file.now) lists.items) (option_copied junit)
 
@@ -329,13 +334,13 @@ GivesAsked subcommand None = asked_by subcommand ≡ None
 
 -- the files that a question names
 abbrev pub files_of : Asked → List Text
-files_of (Compare old new only) = old ∷ new ∷ []
+files_of (Compare old new only script) = old ∷ new ∷ script_file script
 files_of (Why file client topic may) = file ∷ []
 files_of (Lint files) = files
 files_of (Reach file client filter) = file ∷ []
 files_of (ReachAny file user wanted) = file ∷ []
 files_of (ReachAll file script) = file ∷ script ∷ []
-files_of (Who file wanted access only) = file ∷ []
+files_of (Who file wanted access only script) = file ∷ script_file script
 files_of (Test expected lists junit) = expected ∷ lists
 
 -- no more than one of them is standard input

@@ -12,10 +12,10 @@ ghost use Rattle.mq_acl_args.specs.CommandLine.{IsFaultOf};
 use crate::help::{
     ABOUT, ACCESS_HELP, AFTER_HELP, ANY_HELP, CLIENT_HELP, COMPARE_ABOUT, COMPARE_AFTER_HELP,
     EXPECTED_HELP, FILE_HELP, FILES_HELP, FILTER_HELP, JSON_HELP, JUNIT_HELP, LINT_ABOUT,
-    LINT_AFTER_HELP, LISTS_HELP, MAY_HELP, NEW_HELP, OLD_HELP, ONLY_HELP, REACH_ABOUT,
-    REACH_AFTER_HELP, RULES_HELP, SCRIPT_HELP, STEPS_HELP, SUBSCRIBER_HELP, TEST_ABOUT,
-    TEST_AFTER_HELP, TOPIC_HELP, USER_HELP, WANTED_HELP, WAY_HELP, WHO_ABOUT, WHO_AFTER_HELP,
-    WHY_ABOUT, WHY_AFTER_HELP,
+    LINT_AFTER_HELP, LISTS_HELP, MAY_HELP, NEW_HELP, OLD_HELP, ONLY_HELP, PUBLISHES_HELP,
+    REACH_ABOUT, REACH_AFTER_HELP, RULES_HELP, SCRIPT_HELP, STEPS_HELP, SUBSCRIBER_HELP,
+    TEST_ABOUT, TEST_AFTER_HELP, TOPIC_HELP, USER_HELP, WANTED_HELP, WAY_HELP, WHO_ABOUT,
+    WHO_AFTER_HELP, WHY_ABOUT, WHY_AFTER_HELP,
 };
 use crate::request::{Request, request_in};
 use crate::unknown::{unknown_access, unknown_rules, unknown_way};
@@ -56,7 +56,7 @@ impl<'a> Subcommand<'a> {
     }
 }
 
-// `compare OLD NEW [--only WAY] [--steps N] [--rules RULES] [--json]`
+// `compare OLD NEW [--only WAY] [--script SCRIPT] [--steps N] [--rules RULES] [--json]`
 const COMPARE: Subcommand<'static> = Subcommand {
     name: "compare",
     about: COMPARE_ABOUT,
@@ -66,6 +66,7 @@ const COMPARE: Subcommand<'static> = Subcommand {
         Argument("json", ArgumentKind::Flag, JSON_HELP),
         Argument("NEW", ArgumentKind::Required, NEW_HELP),
         Argument("only", ArgumentKind::Option("WAY"), WAY_HELP),
+        Argument("script", ArgumentKind::Option("SCRIPT"), PUBLISHES_HELP),
         Argument("steps", ArgumentKind::Number, STEPS_HELP),
         Argument("rules", ArgumentKind::Option("RULES"), RULES_HELP),
     ],
@@ -118,7 +119,7 @@ const REACH: Subcommand<'static> = Subcommand {
     ],
 };
 
-// `who FILE FILTER [--access ACCESS] [--only USERS] [--steps N] [--rules RULES] [--json]`
+// `who FILE FILTER [--access ACCESS] [--only USERS] [--script SCRIPT] [--steps N] [--rules RULES] [--json]`
 const WHO: Subcommand<'static> = Subcommand {
     name: "who",
     about: WHO_ABOUT,
@@ -129,6 +130,7 @@ const WHO: Subcommand<'static> = Subcommand {
         Argument("FILTER", ArgumentKind::Required, WANTED_HELP),
         Argument("access", ArgumentKind::Option("ACCESS"), ACCESS_HELP),
         Argument("only", ArgumentKind::Option("USERS"), ONLY_HELP),
+        Argument("script", ArgumentKind::Option("SCRIPT"), PUBLISHES_HELP),
         Argument("steps", ArgumentKind::Number, STEPS_HELP),
         Argument("rules", ArgumentKind::Option("RULES"), RULES_HELP),
     ],

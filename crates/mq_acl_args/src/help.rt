@@ -53,6 +53,9 @@ pub(crate) const RULES_HELP: &str =
 
 pub(crate) const JSON_HELP: &str = "Write JSON, one object a line";
 
+pub(crate) const PUBLISHES_HELP: &str =
+    "Count the publishes of this script, or of standard input (-), that each is about at most";
+
 pub(crate) const COMPARE_ABOUT: &str = "Shows what one list allows and the other doesn't";
 
 pub(crate) const COMPARE_AFTER_HELP: &str = "\
@@ -66,6 +69,10 @@ that no line names, at the front of a topic such as don't begin with $.
 With --only gained those alone are shown that the new list allows and the old
 one doesn't, with --only lost the others, and the status is of these.
 
+With --script SCRIPT it is counted how many publishes of the script a difference
+is about at most: those to topics that the filters of its lines match, where %c
+and %u match any level. Who publishes and who subscribes is not looked at.
+
 Long lists that overlap in many ways can take long. A step is a line that is
 looked at for one question, or as much work as that takes. When the steps are
 spent nothing is answered.
@@ -78,7 +85,10 @@ With --json each difference is an object with
   topic     the topic
   made_up   which of these, and of the levels of the topic, stand for others
   old, new  the line that decides it, with file, line and text; or null, where
-            no line allows it";
+            no line allows it
+With --json and --script it has too
+  publishes  how many publishes of the script it is about at most
+  topics     how many topics these are to";
 
 pub(crate) const WHY_ABOUT: &str =
     "Shows whether a client may read and write a topic, and by which line";
@@ -183,6 +193,10 @@ deny lines take away. Of those that may nothing nothing is told.
 With --only those users are left out, and the status is 1 where anybody else
 may.
 
+With --script SCRIPT it is counted how many publishes of the script each is about
+at most: those to topics that FILTER and the filter of the line match, where %c
+and %u match any level. Who publishes and who subscribes is not looked at.
+
 A step is a line that is looked at for one question, or as much work as that
 takes. When the steps are spent nothing is answered.
 
@@ -195,7 +209,10 @@ With --json each is an object with
   not      what these clients may not, each an object with client, line, topic
            and user; line is null where no line allows it
   topic    the topic
-  user     its user name, or null";
+  user     its user name, or null
+With --json and --script each has too
+  publishes  how many publishes of the script it is about at most
+  topics     how many topics these are to";
 
 pub(crate) const EXPECTED_HELP: &str = "The file of what is expected, or - for standard input";
 

@@ -12,4 +12,6 @@ pub struct Options {
     pub rules: Rules,
     /// Whether it is noted where mosquitto decides otherwise, if the rules are our own.
     pub noted: bool,
+    /// Whether the answer is to be in colours, as on a terminal.
+    pub coloured: bool,
 }

@@ -2,111 +2,21 @@
 ghost use Rattle.std.specs.Prelude.{◌≡◌, [], Some, IfOk, codes, map, option_map, unwrap_or};
 ghost use Rattle.std.specs.Option.{option_copied};
 ghost use Rattle.clap.specs.Words.{all_of, first_of, rows_of, found_of, subcommand_rows_of};
-ghost use Rattle.mq_acl_args.specs.CommandLine.{question_view, asked, files_of, GivesAsked};
+ghost use Rattle.mq_acl_args.specs.CommandLine.{question_view, asked, GivesAsked};
 ghost use Rattle.mq_acl_args.specs.CommandLine.{all_asked, any_asked, compare_asked_by, lint_asked, one_asked};
 ghost use Rattle.mq_acl_args.specs.CommandLine.{reach_asked_by, rules_asked, some_asked};
 ghost use Rattle.mq_acl_args.specs.CommandLine.{access_asked, direction_named, steps_given, way_asked, way_named};
 ghost use Rattle.mq_acl_args.specs.CommandLine.{noted_given, test_asked_by};
 ghost use Rattle.mq_acl_args.specs.CommandLine.{who_asked_by, why_asked_by};
-ghost use Rattle.mq_acl_args.specs.Files.{input_count};
 
 use crate::client::Client;
-use crate::files::inputs_among;
 use crate::options::Options;
+use crate::question::Question;
 use crate::selection::Selection;
 use clap::ArgMatches;
 use mq_acl::{Direction, Rules};
 use mq_findings::Way;
 use std::alloc::{AllocError, Global};
-
-/// A question to access lists, each in a file.
-#[derive(Drop)]
-pub enum Question<'a> {
-    /// What one list allows and the other doesn't.
-    Compare {
-        old: &'a str,
-        new: &'a str,
-        /// Of which differences alone it is told, if not of all.
-        only: Option<Way>,
-    },
-    /// Which lines decide whether a client may read and write a topic.
-    Why {
-        file: &'a str,
-        client: Client<'a>,
-        topic: &'a str,
-        /// Whether it may is the status, of reading or of writing.
-        may: Option<Direction>,
-    },
-    /// Which lines have a fault or change nothing.
-    Lint {
-        files: Vec<&'a str>,
-    },
-    /// Whether a subscription of a client can be sent anything.
-    Reach {
-        /// The file of the list.
-        file: &'a str,
-        /// The client.
-        client: Client<'a>,
-        /// The filter, or a shared subscription.
-        filter: &'a str,
-    },
-    /// Whether a client with any id can be sent anything.
-    ReachAny {
-        /// The file of the list.
-        file: &'a str,
-        /// The client's user name, if it has one.
-        user: Option<&'a str>,
-        /// The filter.
-        wanted: &'a str,
-    },
-    /// Which subscriptions of a script can be sent nothing.
-    ReachAll {
-        /// The file of the list.
-        file: &'a str,
-        /// The file of the script.
-        script: &'a str,
-    },
-    /// Who may read or write what a filter matches.
-    Who {
-        /// The file of the list.
-        file: &'a str,
-        /// The filter.
-        wanted: &'a str,
-        /// Of whom it is told.
-        selection: Selection<'a>,
-    },
-    /// Whether lists are as is expected of them.
-    Test {
-        /// The file of what is expected.
-        expected: &'a str,
-        /// The files of the lists, if others than those that it names are meant.
-        lists: Vec<&'a str>,
-        /// The file to write the same to as JUnit's XML, if one is wanted.
-        junit: Option<&'a str>,
-    },
-}
-
-impl Question<'_> {
-    /// How many of its files are standard input.
-    pub(crate) fn input_count(&self) -> usize
-        ensures { result ≡ input_count (files_of (question_view self.now)) }
-    {
-        match self {
-            Question::Compare { old, new, .. } => inputs_among(&[*old, *new]),
-            Question::Why { file, .. } => inputs_among(&[*file]),
-            Question::Lint { files } => inputs_among(files.as_slice()),
-            Question::Reach { file, .. } => inputs_among(&[*file]),
-            Question::ReachAny { file, .. } => inputs_among(&[*file]),
-            Question::ReachAll { file, script } => inputs_among(&[*file, *script]),
-            Question::Who { file, .. } => inputs_among(&[*file]),
-            Question::Test {
-                expected,
-                lists,
-                ..
-            } => { inputs_among(&[*expected]) + inputs_among(lists.as_slice()) }
-        }
-    }
-}
 
 /// What the command line asks for.
 #[derive(Drop)]
@@ -159,7 +69,12 @@ fn compare_in<'a>(matches: &ArgMatches<'a>) -> Option<Question<'a>>
         value(matches, "NEW"),
         way_in(matches),
     ) {
-        (Some(old), Some(new), Some(only)) => Some(Question::Compare { old, new, only }),
+        (Some(old), Some(new), Some(only)) => Some(Question::Compare {
+            old,
+            new,
+            only,
+            script: value(matches, "script"),
+        }),
         _ => None,
     }
 }
@@ -318,6 +233,7 @@ fn who_in<'a>(matches: &ArgMatches<'a>) -> Option<Question<'a>>
             file,
             wanted,
             selection: Selection { access, only },
+            script: value(matches, "script"),
         }),
         _ => None,
     }
@@ -411,6 +327,7 @@ fn request_of<'a>(
         steps: steps_in(matches),
         rules,
         noted: noted_in(matches),
+        coloured: false,
     };
     match question_in(alloc, name, matches)? {
         Some(question) => Ok(Some(Request { question, options })),

@@ -3,31 +3,68 @@ use crate::deciding::{Side, decision, line_if};
 use crate::json::{Datum, add_object};
 use crate::list::{Lines, ListText, lines_of};
 use crate::placeholders::shown_topic;
+use crate::published::{ScriptTraffic, add_counts, add_pattern, publishes_text};
 use crate::table::{add_cell, widened};
 use crate::who::{add_who, group_text};
-use mq_acl::{Direction, Rules};
+use mq_acl::{Direction, Row, Rules};
 use mq_findings::{Difference, Group, Way, gather};
 use mq_topic::LevelText;
+use mq_traffic::Publishes;
 use std::alloc::{AllocError, Global};
+
+/// The publishes of a script, and the rows of two lists that are compared.
+#[derive(Clone, Copy, Drop)]
+pub struct ComparedTraffic<'a> {
+    /// The publishes.
+    pub script: ScriptTraffic<'a>,
+    /// The rows of the old list.
+    pub old: &'a [Row],
+    /// Those of the new list.
+    pub new: &'a [Row],
+}
+
+impl ComparedTraffic<'_> {
+    // The publishes that the difference is about at most: those to topics that the filters of its lines match.
+    fn publishes(self, alloc: Global, difference: &Difference) -> Result<Publishes, AllocError> {
+        let mut patterns = Vec::new(alloc);
+        add_pattern(&mut patterns, self.old, difference.old_reason)?;
+        add_pattern(&mut patterns, self.new, difference.new_reason)?;
+        Ok(self.script.traffic.matched(&patterns))
+    }
+
+    fn words(self, alloc: Global, difference: &Difference) -> Result<String, AllocError> {
+        let publishes = self.publishes(alloc, difference)?;
+        publishes_text(alloc, publishes)
+    }
+}
 
 /// By whose rules lists were compared, and for whom.
 #[derive(Clone, Copy, Drop)]
-pub struct Scope {
+pub struct Scope<'a> {
     /// Whose.
     pub rules: Rules,
     /// Of which differences alone it is told, if not of all.
     pub only: Option<Way>,
     /// Whether client ids and user names with `/`, `+` or `#` are left out.
     pub is_limited: bool,
+    /// What the publishes of a script are counted by, if they are.
+    pub traffic: Option<ComparedTraffic<'a>>,
+    /// Whether what is gained is green, and what is lost red.
+    pub coloured: bool,
 }
+
+// What ends a colour.
+const PLAIN: &str = "\u{1b}[0m";
 
 // A group of differences in words.
 struct ChangeRow<'a> {
     who: String,
+    way: Way,
     access: &'static str,
     topic: String,
     old: Side<'a>,
     new: Side<'a>,
+    publishes: Option<String>,
 }
 
 // One step where it is dropped, and not one for each thing inside.
@@ -35,10 +72,12 @@ impl Drop for ChangeRow<'_> {
     fn drop(self) {
         let ChangeRow {
             who: _,
+            way: _,
             access: _,
             topic: _,
             old: _,
             new: _,
+            publishes: _,
         } = self;
     }
 }
@@ -58,8 +97,20 @@ fn access_words(direction: Direction, way: Way) -> &'static str {
     }
 }
 
+fn words_of_publishes(
+    alloc: Global,
+    scope: Scope<'_>,
+    difference: &Difference,
+) -> Result<Option<String>, AllocError> {
+    match scope.traffic {
+        Some(traffic) => Ok(Some(traffic.words(alloc, difference)?)),
+        None => Ok(None),
+    }
+}
+
 fn change_row<'a>(
     alloc: Global,
+    scope: Scope<'_>,
     old: Lines<'a, 'a, 'a>,
     new: Lines<'a, 'a, 'a>,
     group: &'a Group,
@@ -67,18 +118,23 @@ fn change_row<'a>(
     let difference = &group.first;
     Ok(ChangeRow {
         who: group_text(alloc, group)?,
+        way: difference.way,
         access: access_words(difference.direction, difference.way),
         topic: shown_topic(alloc, difference)?,
         old: decision(alloc, old, difference.old_reason)?,
         new: decision(alloc, new, difference.new_reason)?,
+        publishes: words_of_publishes(alloc, scope, difference)?,
     })
 }
 
-fn widths_of(rows: &[ChangeRow<'_>]) -> Widths {
+fn widths_of(scope: Scope<'_>, rows: &[ChangeRow<'_>]) -> Widths {
     let mut widths = Widths {
         access: 0,
         place: 0,
     };
+    if let Some(traffic) = scope.traffic {
+        widths.place = widened(0, traffic.script.file);
+    }
     for row in rows {
         widths.access = widened(widths.access, row.access);
         widths.place = widened(widths.place, row.old.place.as_str());
@@ -94,17 +150,66 @@ fn add_side(text: &mut String, side: &Side<'_>, width: usize) -> Result<(), Allo
     text.push('\n')
 }
 
-fn add_head(text: &mut String, row: &ChangeRow<'_>, widths: Widths) -> Result<(), AllocError> {
+// The terminal's colour for it: green, or red.
+fn colour_of(way: Way) -> &'static str {
+    match way {
+        Way::Gained => "\u{1b}[32m",
+        Way::Lost => "\u{1b}[31m",
+    }
+}
+
+fn add_access(
+    text: &mut String,
+    row: &ChangeRow<'_>,
+    width: usize,
+    coloured: bool,
+) -> Result<(), AllocError> {
+    if !coloured {
+        return add_cell(text, row.access, width);
+    }
+    text.push_str(colour_of(row.way))?;
+    add_cell(text, row.access, width)?;
+    text.push_str(PLAIN)
+}
+
+fn add_head(
+    text: &mut String,
+    row: &ChangeRow<'_>,
+    widths: Widths,
+    coloured: bool,
+) -> Result<(), AllocError> {
     text.push_str("  ")?;
-    add_cell(text, row.access, widths.access)?;
+    add_access(text, row, widths.access, coloured)?;
     text.push_str(row.topic.as_str())?;
     text.push('\n')
 }
 
-fn add_row(text: &mut String, row: &ChangeRow<'_>, widths: Widths) -> Result<(), AllocError> {
-    add_head(text, row, widths)?;
+// Adds how many publishes it is about at most, if they are counted.
+fn add_publishes(
+    text: &mut String,
+    scope: Scope<'_>,
+    row: &ChangeRow<'_>,
+    width: usize,
+) -> Result<(), AllocError> {
+    let (Some(traffic), Some(publishes)) = (scope.traffic, &row.publishes) else {
+        return Ok(());
+    };
+    text.push_str("    ")?;
+    add_cell(text, traffic.script.file, width)?;
+    text.push_str(publishes.as_str())?;
+    text.push('\n')
+}
+
+fn add_row(
+    text: &mut String,
+    scope: Scope<'_>,
+    row: &ChangeRow<'_>,
+    widths: Widths,
+) -> Result<(), AllocError> {
+    add_head(text, row, widths, scope.coloured)?;
     add_side(text, &row.old, widths.place)?;
-    add_side(text, &row.new, widths.place)
+    add_side(text, &row.new, widths.place)?;
+    add_publishes(text, scope, row, widths.place)
 }
 
 // What so many rows are.
@@ -117,13 +222,13 @@ fn what(count: usize, only: Option<Way>) -> &'static str {
     }
 }
 
-fn table(alloc: Global, scope: Scope, rows: &[ChangeRow<'_>]) -> Result<String, AllocError> {
-    let widths = widths_of(rows);
+fn table(alloc: Global, scope: Scope<'_>, rows: &[ChangeRow<'_>]) -> Result<String, AllocError> {
+    let widths = widths_of(scope, rows);
     let mut text = String::new(alloc);
     let mut who = "";
     for row in rows {
         who = add_who(&mut text, who, row.who.as_str())?;
-        add_row(&mut text, row, widths)?;
+        add_row(&mut text, scope, row, widths)?;
     }
     let count = rows.len();
     let what = what(count, scope.only);
@@ -138,6 +243,7 @@ fn table(alloc: Global, scope: Scope, rows: &[ChangeRow<'_>]) -> Result<String, 
 fn add_json<'a>(
     alloc: Global,
     text: &mut String,
+    scope: Scope<'a>,
     old: Lines<'a, 'a, 'a>,
     new: Lines<'a, 'a, 'a>,
     difference: &'a Difference,
@@ -152,45 +258,46 @@ fn add_json<'a>(
     };
     let old_line = line_if(old, difference.old_reason);
     let new_line = line_if(new, difference.new_reason);
-    add_object(
-        alloc,
-        text,
-        &[
-            ("access", Datum::Text(access)),
-            ("change", Datum::Text(change)),
-            ("client", Datum::Text(difference.client.as_str())),
-            ("made_up", Datum::Texts(&difference.made_up)),
-            ("new", Datum::LineIf(new_line)),
-            ("old", Datum::LineIf(old_line)),
-            ("topic", Datum::Text(difference.topic.text())),
-            ("user", Datum::TextIf(difference.class.user())),
-        ],
-    )
+    let mut data = vec![in alloc;
+        ("access", Datum::Text(access)),
+        ("change", Datum::Text(change)),
+        ("client", Datum::Text(difference.client.as_str())),
+        ("made_up", Datum::Texts(&difference.made_up)),
+        ("new", Datum::LineIf(new_line)),
+        ("old", Datum::LineIf(old_line)),
+        ("topic", Datum::Text(difference.topic.text())),
+        ("user", Datum::TextIf(difference.class.user())),
+    ]?;
+    if let Some(traffic) = scope.traffic {
+        add_counts(&mut data, traffic.publishes(alloc, difference)?)?;
+    }
+    add_object(alloc, text, &data)
 }
 
 fn json_lines(
     alloc: Global,
+    scope: Scope<'_>,
     old: Lines<'_, '_, '_>,
     new: Lines<'_, '_, '_>,
     differences: &[Difference],
 ) -> Result<String, AllocError> {
     let mut text = String::new(alloc);
     for difference in differences {
-        add_json(alloc, &mut text, old, new, difference)?;
+        add_json(alloc, &mut text, scope, old, new, difference)?;
     }
     Ok(text)
 }
 
 fn words<'a>(
     alloc: Global,
-    scope: Scope,
+    scope: Scope<'_>,
     old: Lines<'a, 'a, 'a>,
     new: Lines<'a, 'a, 'a>,
     groups: &'a [Group],
 ) -> Result<String, AllocError> {
     let mut rows = Vec::new(alloc);
     for group in groups {
-        rows.push(change_row(alloc, old, new, group)?)?;
+        rows.push(change_row(alloc, scope, old, new, group)?)?;
     }
     table(alloc, scope, &rows)
 }
@@ -205,7 +312,7 @@ fn add_none(text: &mut String, only: Option<Way>, old: &str, new: &str) -> Resul
 }
 
 // That the lists don't differ, or not in the way that is asked about.
-fn none_text(alloc: Global, scope: Scope, old: &str, new: &str) -> Result<String, AllocError> {
+fn none_text(alloc: Global, scope: Scope<'_>, old: &str, new: &str) -> Result<String, AllocError> {
     let whose = match scope.rules {
         Rules::Own => "mqroute's own",
         Rules::Mosquitto => "mosquitto's",
@@ -228,7 +335,7 @@ fn none_text(alloc: Global, scope: Scope, old: &str, new: &str) -> Result<String
 /// Where the lists differ: as a table of differences that are alike, or as JSON, one difference a line.
 pub fn changes_text(
     alloc: Global,
-    scope: Scope,
+    scope: Scope<'_>,
     old: ListText<'_, '_>,
     new: ListText<'_, '_>,
     differences: Vec<Difference>,
@@ -245,7 +352,7 @@ pub fn changes_text(
         lines: &new_lines,
     };
     if json {
-        return json_lines(alloc, old, new, &differences);
+        return json_lines(alloc, scope, old, new, &differences);
     }
     if differences.is_empty() {
         return none_text(alloc, scope, old.file, new.file);

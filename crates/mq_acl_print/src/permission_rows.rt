@@ -53,6 +53,13 @@ impl Drop for PermissionRow<'_> {
     }
 }
 
+impl<'a> PermissionRow<'a> {
+    /// One of those that it is about.
+    pub(crate) fn first(&self) -> Option<&'a Difference> {
+        self.all.get(0).copied()
+    }
+}
+
 fn is_denied(difference: &Difference) -> bool {
     matches!(difference.old_reason, Reason::Deny(_))
 }

@@ -3,13 +3,43 @@ use crate::deciding::{Side, line_if};
 use crate::json::{Datum, Exception, add_object};
 use crate::list::{Lines, ListText, lines_of};
 use crate::permission_rows::{PermissionRow, PermissionRows};
+use crate::published::{ScriptTraffic, add_counts, add_pattern, publishes_text};
 use crate::refusals::Refusals;
 use crate::table::{add_cell, widened};
 use crate::who::add_who;
-use mq_acl::Direction;
+use mq_acl::{Direction, Row};
 use mq_findings::Difference;
 use mq_topic::LevelText;
+use mq_traffic::{Publishes, TopicPattern};
 use std::alloc::{AllocError, Global};
+
+/// The publishes of a script, and the rows of a list.
+#[derive(Clone, Copy, Drop)]
+pub struct ListTraffic<'a> {
+    /// The publishes.
+    pub script: ScriptTraffic<'a>,
+    /// The rows.
+    pub rows: &'a [Row],
+}
+
+impl<'a> ListTraffic<'a> {
+    // The publishes that the permission is about at most: those to topics that the filter that is asked about matches, and
+    // that of the line.
+    fn publishes(
+        self,
+        alloc: Global,
+        filter: &'a str,
+        granted: &Difference,
+    ) -> Result<Publishes, AllocError> {
+        let asked = TopicPattern {
+            filter,
+            has_marks: true,
+        };
+        let mut patterns = vec![in alloc; asked]?;
+        add_pattern(&mut patterns, self.rows, granted.old_reason)?;
+        Ok(self.script.traffic.matched(&patterns))
+    }
+}
 
 /// What is asked of a list.
 #[derive(Clone, Copy, Drop)]
@@ -20,6 +50,8 @@ pub struct Asked<'a> {
     pub access: Option<Direction>,
     /// Whether some users are left out.
     pub of_others: bool,
+    /// What the publishes of a script are counted by, if they are.
+    pub traffic: Option<ListTraffic<'a>>,
 }
 
 #[derive(Clone, Copy, Drop)]
@@ -46,36 +78,47 @@ fn exceptions<'a>(
     Ok(all)
 }
 
-fn add_json<'a>(
+fn permission_data<'d>(
     alloc: Global,
-    text: &mut String,
-    list: Lines<'a, 'a, 'a>,
-    granted: &'a Difference,
-    refused: &[&'a Difference],
-) -> Result<(), AllocError> {
+    list: Lines<'d, 'd, 'd>,
+    granted: &'d Difference,
+    exceptions: &'d [Exception<'d>],
+) -> Result<Vec<(&'static str, Datum<'d>)>, AllocError> {
     let access = match granted.direction {
         Direction::Reading => "read",
         Direction::Writing => "write",
     };
+    Ok(vec![in alloc;
+        ("access", Datum::Text(access)),
+        ("client", Datum::Text(granted.client.as_str())),
+        ("every", Datum::Flag(exceptions.is_empty())),
+        ("line", Datum::LineIf(line_if(list, granted.old_reason))),
+        ("made_up", Datum::Texts(&granted.made_up)),
+        ("not", Datum::Exceptions(exceptions)),
+        ("topic", Datum::Text(granted.topic.text())),
+        ("user", Datum::TextIf(granted.class.user())),
+    ]?)
+}
+
+fn add_json<'a>(
+    alloc: Global,
+    text: &mut String,
+    asked: Asked<'a>,
+    list: Lines<'a, 'a, 'a>,
+    granted: &'a Difference,
+    refused: &[&'a Difference],
+) -> Result<(), AllocError> {
     let exceptions = exceptions(alloc, list, refused)?;
-    add_object(
-        alloc,
-        text,
-        &[
-            ("access", Datum::Text(access)),
-            ("client", Datum::Text(granted.client.as_str())),
-            ("every", Datum::Flag(refused.is_empty())),
-            ("line", Datum::LineIf(line_if(list, granted.old_reason))),
-            ("made_up", Datum::Texts(&granted.made_up)),
-            ("not", Datum::Exceptions(&exceptions)),
-            ("topic", Datum::Text(granted.topic.text())),
-            ("user", Datum::TextIf(granted.class.user())),
-        ],
-    )
+    let mut data = permission_data(alloc, list, granted, &exceptions)?;
+    if let Some(traffic) = asked.traffic {
+        add_counts(&mut data, traffic.publishes(alloc, asked.filter, granted)?)?;
+    }
+    add_object(alloc, text, &data)
 }
 
 fn json_lines<'a>(
     alloc: Global,
+    asked: Asked<'a>,
     list: Lines<'a, 'a, 'a>,
     granted: &'a [Difference],
     refusals: &Refusals<'a>,
@@ -83,7 +126,7 @@ fn json_lines<'a>(
     let mut text = String::new(alloc);
     for one in granted {
         let refused = refusals.beside(alloc, one)?;
-        add_json(alloc, &mut text, list, one, &refused)?;
+        add_json(alloc, &mut text, asked, list, one, &refused)?;
     }
     Ok(text)
 }
@@ -113,12 +156,15 @@ fn widen(widths: &mut Widths, row: &PermissionRow<'_>) {
     }
 }
 
-fn widths_of(rows: &[PermissionRow<'_>]) -> Widths {
+fn widths_of(asked: Asked<'_>, rows: &[PermissionRow<'_>]) -> Widths {
     let mut widths = Widths {
         access: 0,
         topic: 0,
         place: 0,
     };
+    if let Some(traffic) = asked.traffic {
+        widths.place = widened(0, traffic.script.file);
+    }
     for row in rows {
         widen(&mut widths, row);
     }
@@ -148,13 +194,38 @@ fn add_row(text: &mut String, row: &PermissionRow<'_>, widths: Widths) -> Result
     Ok(())
 }
 
-fn table(alloc: Global, rows: &[PermissionRow<'_>]) -> Result<String, AllocError> {
-    let widths = widths_of(rows);
+// Adds how many publishes it is about at most, if they are counted.
+fn add_publishes(
+    alloc: Global,
+    text: &mut String,
+    asked: Asked<'_>,
+    row: &PermissionRow<'_>,
+    widths: Widths,
+) -> Result<(), AllocError> {
+    let (Some(traffic), Some(granted)) = (asked.traffic, row.first()) else {
+        return Ok(());
+    };
+    let publishes = traffic.publishes(alloc, asked.filter, granted)?;
+    let words = publishes_text(alloc, publishes)?;
+    let side = Side {
+        place: String::from_str(alloc, traffic.script.file)?,
+        words: words.as_str(),
+    };
+    add_line(text, widths, "", "", &side)
+}
+
+fn table(
+    alloc: Global,
+    asked: Asked<'_>,
+    rows: &[PermissionRow<'_>],
+) -> Result<String, AllocError> {
+    let widths = widths_of(asked, rows);
     let mut text = String::new(alloc);
     let mut who = "";
     for row in rows {
         who = add_who(&mut text, who, row.who.as_str())?;
         add_row(&mut text, row, widths)?;
+        add_publishes(alloc, &mut text, asked, row, widths)?;
     }
     Ok(text)
 }
@@ -188,21 +259,21 @@ fn by_direction(alloc: Global, granted: Vec<Difference>) -> Result<Vec<Differenc
 fn told<'a>(
     alloc: Global,
     list: Lines<'a, 'a, 'a>,
-    asked: Asked<'_>,
+    asked: Asked<'a>,
     granted: &'a [Difference],
     refused: &'a [Difference],
     json: bool,
 ) -> Result<String, AllocError> {
     let refusals = Refusals::new(alloc, refused)?;
     if json {
-        return json_lines(alloc, list, granted, &refusals);
+        return json_lines(alloc, asked, list, granted, &refusals);
     }
     if granted.is_empty() {
         return nobody(alloc, asked);
     }
     let mut rows = rows_of(alloc, list, granted, &refusals)?;
     rows.name_all(alloc)?;
-    table(alloc, rows.as_slice())
+    table(alloc, asked, rows.as_slice())
 }
 
 /// Who may by the list, as it was asked: as a table of what is told alike, or as JSON, one object a line. `granted` is what

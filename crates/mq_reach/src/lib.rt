@@ -21,6 +21,7 @@ mod tracked;
 
 pub use counts::Counts;
 pub use fault::ReachFault;
+pub use log::begins_as_log;
 pub use question::SearchFault;
 pub use reach::Reach;
 pub use reading::{ScriptFault, find_vain};

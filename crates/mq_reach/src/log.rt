@@ -24,7 +24,7 @@ fn begins_with_seconds(line: &[u8]) -> bool {
 }
 
 /// Whether a line begins as one of a log of mosquitto: with the seconds and a colon, or with a date.
-pub(crate) fn begins_as_log(line: &[u8]) -> bool {
+pub fn begins_as_log(line: &[u8]) -> bool {
     if begins_with_seconds(line) {
         return true;
     }

@@ -11,7 +11,7 @@ pub answer-weaker : (rules : Rules) (noted : Bool) (input : Option (List ℕ)) (
     (outcome : Outcome) {quiet other : Type 0} → (quiet → other)
     → IsAnswer rules noted input question outcome quiet
     → IsAnswer rules noted input question outcome other
-answer-weaker rules noted input (Compare old new only) outcome follows is =
+answer-weaker rules noted input (Compare old new only script) outcome follows is =
     (is.0, is.1, is.2, is.3, is.4, λ own is_old is_new. follows (is.5 own is_old is_new))
 answer-weaker rules noted input (Why file client topic may) outcome follows is =
     (is.0, is.1, is.2, λ own plain. follows (is.3 own plain))
@@ -23,7 +23,7 @@ answer-weaker rules noted input (ReachAny file user wanted) outcome follows is =
     (is.0, is.1, is.2, λ own plain. follows (is.3 own plain))
 answer-weaker rules noted input (ReachAll file script) outcome follows is =
     (is.0, is.1, is.2, is.3, is.4, λ own plain. follows (is.5 own plain))
-answer-weaker rules noted input (Who file wanted access only) outcome follows is =
+answer-weaker rules noted input (Who file wanted access only script) outcome follows is =
     (is.0, is.1, is.2, λ own plain. follows (is.3 own plain))
 answer-weaker rules noted input (Test expected lists junit) outcome follows is = (
   is.0,

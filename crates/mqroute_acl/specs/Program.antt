@@ -23,7 +23,7 @@ use Rattle.mqroute_acl.specs.Test.{IsTested}
 -- where it is noted what mosquitto decides otherwise for `lint` and for a list that isn't plain
 abbrev pub IsAnswer : Rules → (noted : Bool) → (input : Option (List ℕ)) → Asked → Outcome
     → (quiet : Type 0) → Type 0
-IsAnswer rules noted input (Compare old new only) outcome quiet = (old_text new_text : List ℕ)
+IsAnswer rules noted input (Compare old new only script) outcome quiet = (old_text new_text : List ℕ)
     × IsTextOf input old old_text × IsTextOf input new new_text
     × IsCompared rules only old_text new_text outcome
     × (rules ≡ Own → IsQuiet noted old_text → IsQuiet noted new_text → quiet)
@@ -42,7 +42,7 @@ IsAnswer rules noted input (ReachAny file user wanted) outcome quiet = (text : L
 IsAnswer rules noted input (ReachAll file script) outcome quiet = (text lines : List ℕ)
     × IsTextOf input file text × IsTextOf input script lines × AreTold rules text lines outcome
     × (rules ≡ Own → IsQuiet noted text → quiet)
-IsAnswer rules noted input (Who file wanted access only) outcome quiet = (text : List ℕ)
+IsAnswer rules noted input (Who file wanted access only script) outcome quiet = (text : List ℕ)
     × IsTextOf input file text × IsWho rules text wanted access only outcome
     × (rules ≡ Own → IsQuiet noted text → quiet)
 IsAnswer rules noted input (Test expected lists junit) outcome quiet = (text : List ℕ)

@@ -1,11 +1,13 @@
-//! The texts of the lists that a question is about.
+//! The texts of the lists that a question is about, and the publishes of scripts.
 ghost use Rattle.std.specs.Prelude.{◌≡◌, IfOk, IfSome, false, string_bytes};
-ghost use Rattle.mq_acl_args.specs.Files.{is_input as is_dash};
+ghost use Rattle.mq_acl_args.specs.Files.{input_count, is_input as is_dash, script_file};
+ghost use Rattle.std.specs.Option.{option_copied};
 ghost use Rattle.mqroute_acl.specs.Files.{IsTextOf};
 
 use crate::list_file::{FileFault, read_text};
-use mq_acl_answers::Failure;
+use mq_acl_answers::{Failure, find_traffic};
 use mq_acl_args::is_input;
+use mq_traffic::Traffic;
 use std::alloc::Global;
 use std::fs;
 use std::io::Read;
@@ -64,4 +66,35 @@ pub(crate) fn text_of<'a, R: Files, I: Read>(
         return text_in(alloc, file, &mut *input);
     }
     opened_text(rt, alloc, file)
+}
+
+// The publishes of a script in a file, whatever its name.
+fn opened_traffic<'a, R: Files>(
+    rt: &R,
+    alloc: Global,
+    script: &'a str,
+) -> Result<Traffic, Failure<'a>> {
+    match fs::open(rt, script) {
+        Ok(opened) => find_traffic(alloc, script, opened),
+        Err(error) => Err(Failure::of_io(script, error)),
+    }
+}
+
+/// The publishes of a script, if one is given, which is standard input where it is `-`.
+pub(crate) fn traffic_of<'a, R: Files, I: Read>(
+    rt: &R,
+    alloc: Global,
+    script: Option<&'a str>,
+    input: &mut I,
+) -> Result<Option<Traffic>, Failure<'a>>
+    // Another file, and no script, leaves the input alone.
+    ensures { input_count (script_file (option_copied script.entry)) ≡ 0 → input.new ≡ input.old }
+{
+    let Some(script) = script else {
+        return Ok(None);
+    };
+    if is_input(script) {
+        return Ok(Some(find_traffic(alloc, script, &mut *input)?));
+    }
+    Ok(Some(opened_traffic(rt, alloc, script)?))
 }

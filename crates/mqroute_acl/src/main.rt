@@ -9,8 +9,8 @@ mod test;
 
 use crate::program::start;
 use mq_acl_answers::{FAILED, UNREADABLE};
-use std::env;
-use std::io::{self, ErrorKind, Write};
+use std::env::{self, VarError};
+use std::io::{self, ErrorKind, IsTerminal, Write};
 use std::process::ExitCode;
 
 const NO_TEXT: &str = "mqroute-acl: an argument is not UTF-8\n";
@@ -34,11 +34,34 @@ fn words(rt: &HostRuntime) -> io::Result<Vec<String>> {
     Ok(words)
 }
 
+// Whether a variable of the environment is set, and not empty. One that is no text is.
+fn is_set(rt: &HostRuntime, name: &str) -> bool {
+    match env::var(rt, name) {
+        Ok(value) => !value.is_empty(),
+        Err(VarError::NotPresent) => false,
+        Err(_) => true,
+    }
+}
+
+// Whether answers have colours: on a terminal, unless NO_COLOR is set (no-color.org).
+fn is_coloured(rt: &HostRuntime) -> bool {
+    rt.stdout().is_terminal() && !is_set(rt, "NO_COLOR")
+}
+
 fn run(rt: &HostRuntime, words: &[String]) -> u8 {
+    let coloured = is_coloured(rt);
     let mut input = rt.stdin();
     let mut out = rt.stdout();
     let mut err = rt.stderr();
-    start(rt, rt.alloc(), words, &mut input, &mut out, &mut err)
+    start(
+        rt,
+        rt.alloc(),
+        words,
+        coloured,
+        &mut input,
+        &mut out,
+        &mut err,
+    )
 }
 
 // Tells why the program fails, and answers its status. A failed write on standard error is passed over.

@@ -7,7 +7,7 @@ ghost use Rattle.mq_acl_args.specs.CommandLine.{Asked, IsFaultOf, ReadsInputOnce
 ghost use Rattle.mq_acl_args.specs.CommandLine.{fault_of, files_of, mqroute_acl, question_view};
 ghost use Rattle.mq_acl_args.specs.CommandLine.{noted_given, rules_given, subcommand_of};
 ghost use Rattle.mq_acl_args.specs.CommandLine.{values_of};
-ghost use Rattle.mq_acl_args.specs.Files.{input_count, is_input as is_dash};
+ghost use Rattle.mq_acl_args.specs.Files.{input_count, is_input as is_dash, script_file};
 ghost use Rattle.mq_acl_answers.specs.Answers.{IsCompared, IsExplained, IsReached};
 ghost use Rattle.mq_acl_answers.specs.Notes.{IsQuiet};
 ghost use Rattle.mq_acl_answers.specs.ReachAny.{IsReachedByAny};
@@ -17,7 +17,7 @@ ghost use Rattle.mq_acl_answers.specs.Who.{IsWho};
 ghost use Rattle.mqroute_acl.specs.Files.{IsTextOf};
 ghost use Rattle.mqroute_acl.specs.Program.{IsAnswer, IsAnswered, TellsUsage};
 
-use crate::files::text_of;
+use crate::files::{text_of, traffic_of};
 use crate::lint::answer_lint;
 use crate::test::answer_test;
 use mq_acl::Direction;
@@ -26,25 +26,38 @@ use mq_acl_answers::{
     tell_subscriptions, tell_who, tell_why,
 };
 use mq_acl_args::{Client, Options, Question, Request, Selection, arguments, is_input};
-use mq_acl_print::ListText;
+use mq_acl_print::{ListText, ScriptTraffic};
 use mq_args::UsageFault;
 use mq_findings::Way;
+use mq_traffic::Traffic;
 use std::alloc::{AllocError, Global};
 use std::fs;
 use std::io::{Read, Write};
 use std::rt::Files;
 
+// The publishes of the script that is read, if one is.
+fn script_traffic<'s>(
+    file: Option<&'s str>,
+    traffic: &'s Option<Traffic>,
+) -> Option<ScriptTraffic<'s>> {
+    match (file, traffic) {
+        (Some(file), Some(traffic)) => Some(ScriptTraffic { file, traffic }),
+        _ => None,
+    }
+}
+
+/// Of the files of two lists, and of a script if one is given.
 fn answer_compare<'a, R: Files, I: Read, W: Write>(
     rt: &R,
     alloc: Global,
-    files: (&'a str, &'a str),
+    files: (&'a str, &'a str, Option<&'a str>),
     only: Option<Way>,
     options: Options,
     input: &mut I,
     out: &mut W,
     notes: &mut String,
 ) -> Result<Outcome, Failure<'a>>
-    requires { input_count (files.0.now ∷ files.1.now ∷ []) ≤ 1 }
+    requires { input_count (files.0.now ∷ files.1.now ∷ script_file (option_copied files.2)) ≤ 1 }
     ensures ok { IfOk result (λ outcome. (old new : List ℕ)
         × IsTextOf (I.remaining input.old) files.entry.0.now old
         × IsTextOf (I.remaining input.old) files.entry.1.now new
@@ -52,11 +65,12 @@ fn answer_compare<'a, R: Files, I: Read, W: Write>(
         × (options.rules ≡ Own → IsQuiet options.noted old → IsQuiet options.noted new
         → notes.new ≡ notes.old)) }
     ensures unread { IfErr result (λ failure. failure_status failure ≡ 2 → out.new ≡ out.old) }
-    ensures kept { input_count (files.entry.0.now ∷ files.entry.1.now ∷ []) ≡ 0
-        → input.new ≡ input.old }
+    ensures kept { input_count (files.entry.0.now ∷ files.entry.1.now
+        ∷ script_file (option_copied files.entry.2)) ≡ 0 → input.new ≡ input.old }
 {
     let old_text = text_of(rt, alloc, files.0, input)?;
     let new_text = text_of(rt, alloc, files.1, input)?;
+    let traffic = traffic_of(rt, alloc, files.2, input)?;
     let old = ListText {
         file: files.0,
         text: old_text.as_str(),
@@ -65,7 +79,8 @@ fn answer_compare<'a, R: Files, I: Read, W: Write>(
         file: files.1,
         text: new_text.as_str(),
     };
-    tell_changes(alloc, old, new, only, options, out, notes)
+    let script = script_traffic(files.2, &traffic);
+    tell_changes(alloc, old, new, only, script, options, out, notes)
 }
 
 /// Of a client and a topic, and whether the status is of reading or of writing.
@@ -205,11 +220,11 @@ fn answer_reach_all<'a, R: Files, I: Read, W: Write>(
     answer_script(rt, alloc, list, script, options, input, out, notes)
 }
 
-/// Of a file, a filter, and those of whom it is told.
+/// Of a file, a filter, those of whom it is told, and a script if one is given.
 fn answer_who<'a, R: Files, I: Read, W: Write>(
     rt: &R,
     alloc: Global,
-    about: (&'a str, &'a str, Selection<'a>),
+    about: (&'a str, &'a str, Selection<'a>, Option<&'a str>),
     options: Options,
     input: &mut I,
     out: &mut W,
@@ -221,21 +236,25 @@ fn answer_who<'a, R: Files, I: Read, W: Write>(
         (option_copied about.entry.2.only) outcome
         × (options.rules ≡ Own → IsQuiet options.noted text → notes.new ≡ notes.old)) }
     ensures unread { IfErr result (λ failure. failure_status failure ≡ 2 → out.new ≡ out.old) }
-    ensures kept { input_count (about.entry.0.now ∷ []) ≡ 0 → input.new ≡ input.old }
+    ensures kept { input_count (about.entry.0.now ∷ script_file (option_copied about.entry.3)) ≡ 0
+        → input.new ≡ input.old }
 {
     let text = text_of(rt, alloc, about.0, input)?;
+    let traffic = traffic_of(rt, alloc, about.3, input)?;
     let list = ListText {
         file: about.0,
         text: text.as_str(),
     };
-    tell_who(alloc, list, about.1, about.2, options, out, notes)
+    let script = script_traffic(about.3, &traffic);
+    tell_who(alloc, list, about.1, about.2, script, options, out, notes)
 }
 
-/// Answers what is asked for.
+/// Answers what is asked for, in colours or without.
 fn answer<'a, R: Files, I: Read, W: Write>(
     rt: &R,
     alloc: Global,
     request: Request<'a>,
+    coloured: bool,
     input: &mut I,
     out: &mut W,
     notes: &mut String,
@@ -248,10 +267,18 @@ fn answer<'a, R: Files, I: Read, W: Write>(
     ensures kept { input_count (files_of (question_view request.entry.question)) ≡ 0
         → input.new ≡ input.old }
 {
-    let options = request.options;
+    let options = Options {
+        coloured,
+        ..request.options
+    };
     match request.question {
-        Question::Compare { old, new, only } => {
-            let files = (old, new);
+        Question::Compare {
+            old,
+            new,
+            only,
+            script,
+        } => {
+            let files = (old, new, script);
             answer_compare(rt, alloc, files, only, options, input, out, notes)
         }
         Question::Why {
@@ -285,8 +312,9 @@ fn answer<'a, R: Files, I: Read, W: Write>(
             file,
             wanted,
             selection,
+            script,
         } => {
-            let about = (file, wanted, selection);
+            let about = (file, wanted, selection, script);
             answer_who(rt, alloc, about, options, input, out, notes)
         }
         Question::Test {
@@ -355,7 +383,7 @@ fn report_usage<W: Write, E: Write>(
     }
 }
 
-/// Runs the program: `words` are its name and its arguments, `input` is read for the file `-`, answers go to `out`, and a
+/// Runs the program: `words` are its name and its arguments, answers that have colours are `coloured`, `input` is read for the file `-`, answers go to `out`, and a
 /// line on `err` says what failed. Answers the exit status: 0 where nothing is to be remarked or help was asked for, 1
 /// where something is, 2 where the words are not understood, a file can't be opened, read or understood, or an answer takes
 /// more steps than are given, and 3 where a write failed or memory ran out, even if only for the line on `err`.
@@ -363,6 +391,7 @@ pub(crate) fn start<R: Files, I: Read, W: Write, E: Write>(
     rt: &R,
     alloc: Global,
     words: &[String],
+    coloured: bool,
     input: &mut I,
     out: &mut W,
     err: &mut E,
@@ -402,7 +431,7 @@ pub(crate) fn start<R: Files, I: Read, W: Write, E: Write>(
         Err(fault) => return report_usage(alloc, fault, out, err),
     };
     let mut notes = String::new(alloc);
-    match answer(rt, alloc, request, input, out, &mut notes) {
+    match answer(rt, alloc, request, coloured, input, out, &mut notes) {
         Ok(outcome) => note(notes, outcome.status(), err),
         Err(failure) => report(alloc, failure, err),
     }

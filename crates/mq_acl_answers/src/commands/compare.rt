@@ -16,7 +16,7 @@ use crate::outcome::Outcome;
 use crate::printing::print_outcome;
 use mq_acl::{Row, Rules};
 use mq_acl_args::Options;
-use mq_acl_print::{ListText, Scope, changes_text};
+use mq_acl_print::{ComparedTraffic, ListText, Scope, ScriptTraffic, changes_text};
 use mq_findings::{ComparisonFault, Difference, Side, Way, compare};
 use std::alloc::{AllocError, Global};
 use std::io::Write;
@@ -43,16 +43,14 @@ impl Drop for Changes {
 }
 
 impl Changes {
-    /// Where the lists differ, without their rows.
-    pub fn into_differences(self) -> Vec<Difference>
-        ensures { result ≡ self.differences }
-    {
+    // The rows of both lists, and where they differ.
+    fn into_parts(self) -> (Vec<Row>, Vec<Row>, Vec<Difference>) {
         let Changes {
-            old: _,
-            new: _,
+            old,
+            new,
             differences,
         } = self;
-        differences
+        (old, new, differences)
     }
 }
 
@@ -167,13 +165,41 @@ fn asked(
         .collect(alloc)
 }
 
+fn answer_text(
+    alloc: Global,
+    lists: (ListText<'_, '_>, ListText<'_, '_>),
+    only: Option<Way>,
+    script: Option<ScriptTraffic<'_>>,
+    options: Options,
+    changes: Changes,
+) -> Result<String, AllocError> {
+    let (old, new, differences) = changes.into_parts();
+    let rules = options.rules;
+    let traffic = script.map(|script| ComparedTraffic {
+        script,
+        old: &old,
+        new: &new,
+    });
+    let scope = Scope {
+        rules,
+        only,
+        is_limited: is_limited(rules, &old) || is_limited(rules, &new),
+        traffic,
+        coloured: options.coloured,
+    };
+    let differences = asked(alloc, differences, only)?;
+    changes_text(alloc, scope, lists.0, lists.1, differences, options.json)
+}
+
 /// Shows where the lists with these texts differ, or what one of them alone allows, if so many steps suffice to know it,
-/// and notes of whom it isn't known, and by our own rules where mosquitto decides otherwise.
+/// and notes of whom it isn't known, and by our own rules where mosquitto decides otherwise. Where a script is given, its
+/// publishes that each difference is about at most are counted.
 pub fn tell_changes<'a, W: Write>(
     alloc: Global,
     old: ListText<'a, '_>,
     new: ListText<'a, '_>,
     only: Option<Way>,
+    script: Option<ScriptTraffic<'_>>,
     options: Options,
     out: &mut W,
     notes: &mut String,
@@ -186,21 +212,14 @@ pub fn tell_changes<'a, W: Write>(
         → notes.new ≡ notes.old) }
 {
     let changes = find_changes(alloc, options.rules, old, new, options.steps)?;
-    let rules = options.rules;
+    let outcome = outcome_of(&changes.differences, only);
     add_limits(
         notes,
-        rules,
+        options.rules,
         (old.file, &changes.old),
         (new.file, &changes.new),
     )?;
-    let scope = Scope {
-        rules,
-        only,
-        is_limited: is_limited(rules, &changes.old) || is_limited(rules, &changes.new),
-    };
-    let outcome = outcome_of(&changes.differences, only);
-    let differences = asked(alloc, changes.into_differences(), only)?;
-    let text = changes_text(alloc, scope, old, new, differences, options.json);
+    let text = answer_text(alloc, (old, new), only, script, options, changes);
     // behind it, when the rows are gone
     add_otherwise_of_two(alloc, notes, old, new, options)?;
     print_outcome(out, text, outcome)

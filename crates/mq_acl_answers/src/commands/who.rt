@@ -25,7 +25,7 @@ use crate::outcome::Outcome;
 use crate::printing::print_outcome;
 use mq_acl::{Direction, Row, Rules};
 use mq_acl_args::{Options, Selection};
-use mq_acl_print::{Asked, ListText, permissions_text};
+use mq_acl_print::{Asked, ListText, ListTraffic, ScriptTraffic, permissions_text};
 use mq_findings::{Class, Difference};
 use mq_topic::{TopicFault, TopicFilter};
 use mq_who::{Permissions, WhoFault, who_may};
@@ -193,6 +193,7 @@ fn answer_text(
     list: ListText<'_, '_>,
     wanted: &str,
     selection: &Selection<'_>,
+    traffic: Option<ListTraffic<'_>>,
     permissions: Permissions,
     json: bool,
 ) -> Result<String, AllocError> {
@@ -200,6 +201,7 @@ fn answer_text(
         filter: wanted,
         access: selection.access,
         of_others: selection.only.is_some(),
+        traffic,
     };
     let mut permissions = permissions;
     let granted = mem::replace(&mut permissions.granted, Vec::new(alloc));
@@ -207,13 +209,28 @@ fn answer_text(
     permissions_text(alloc, list, asked, granted, &permissions.refused, json)
 }
 
+// The rows of the list, where they are needed.
+fn rows_if<'a>(
+    alloc: Global,
+    needed: bool,
+    list: ListText<'a, '_>,
+    options: Options,
+) -> Result<Vec<Row>, Failure<'a>> {
+    if !needed {
+        return Ok(Vec::new(alloc));
+    }
+    rows_in(alloc, options.rules, list)
+}
+
 /// Shows who may by the list read or write the topics that the filter matches, if so many steps suffice to know it; and
-/// notes of whom it isn't known, and by our own rules where mosquitto decides otherwise.
+/// notes of whom it isn't known, and by our own rules where mosquitto decides otherwise. Where a script is given, its
+/// publishes that each is about at most are counted.
 pub fn tell_who<'a, W: Write>(
     alloc: Global,
     list: ListText<'a, '_>,
     wanted: &'a str,
     selection: Selection<'a>,
+    script: Option<ScriptTraffic<'_>>,
     options: Options,
     out: &mut W,
     notes: &mut String,
@@ -228,6 +245,12 @@ pub fn tell_who<'a, W: Write>(
     add_who_limit(notes, options.rules)?;
     add_otherwise(alloc, notes, list, options)?;
     let outcome = outcome_of(&permissions.granted, &selection);
-    let text = answer_text(alloc, list, wanted, &selection, permissions, options.json);
+    let rows = rows_if(alloc, script.is_some(), list, options)?;
+    let traffic = script.map(|script| ListTraffic {
+        script,
+        rows: &rows,
+    });
+    let json = options.json;
+    let text = answer_text(alloc, list, wanted, &selection, traffic, permissions, json);
     print_outcome(out, text, outcome)
 }

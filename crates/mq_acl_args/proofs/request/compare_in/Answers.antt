@@ -6,6 +6,7 @@ returns-in-Some-Some-Some c =
     rw (
       sym c.value.ensures,
       sym c.value-2.ensures,
+      sym c.value-in-Some-Some-Some.ensures,
       sym c.way_in.ensures,
       c.in-Some-Some-Some.is-0,
       c.in-Some-Some-Some.is-1,

@@ -16,8 +16,8 @@ returns-clause-ok g c =
     in
     let is = compared c.args.options.rules c.args.only c.args.old.text.now c.args.new.text.now
     c.in_ok-changes.changes c.outcome_of-outcome.result c.in_ok-changes.ensures.ok
-    (λ e. ap asked (sym c.deref-4.ensures.value) ∙ c.outcome_of-outcome.ensures.clear e)
-    (λ e. ap asked (sym c.deref-4.ensures.value) ∙ c.outcome_of-outcome.ensures.remark e) in
+    (λ e. ap asked (sym c.deref.ensures.value) ∙ c.outcome_of-outcome.ensures.clear e)
+    (λ e. ap asked (sym c.deref.ensures.value) ∙ c.outcome_of-outcome.ensures.remark e) in
     IfOk-weaker c.print_outcome.result _ _ (λ told e. rw e is) c.print_outcome.ensures.ok
 
 pub returns-in_err-changes-clause-unread : goal.returns-in_err-changes-clause-unread

@@ -1,0 +1,108 @@
+//! The questions that a command line asks.
+ghost use Rattle.std.specs.Prelude.{◌≡◌};
+ghost use Rattle.mq_acl_args.specs.CommandLine.{files_of, question_view};
+ghost use Rattle.mq_acl_args.specs.Files.{input_count};
+
+use crate::client::Client;
+use crate::files::{input_in, inputs_among};
+use crate::selection::Selection;
+use mq_acl::Direction;
+use mq_findings::Way;
+
+/// A question to access lists, each in a file.
+#[derive(Drop)]
+pub enum Question<'a> {
+    /// What one list allows and the other doesn't.
+    Compare {
+        old: &'a str,
+        new: &'a str,
+        /// Of which differences alone it is told, if not of all.
+        only: Option<Way>,
+        /// The file of a script whose publishes are counted, if one is given.
+        script: Option<&'a str>,
+    },
+    /// Which lines decide whether a client may read and write a topic.
+    Why {
+        file: &'a str,
+        client: Client<'a>,
+        topic: &'a str,
+        /// Whether it may is the status, of reading or of writing.
+        may: Option<Direction>,
+    },
+    /// Which lines have a fault or change nothing.
+    Lint {
+        files: Vec<&'a str>,
+    },
+    /// Whether a subscription of a client can be sent anything.
+    Reach {
+        /// The file of the list.
+        file: &'a str,
+        /// The client.
+        client: Client<'a>,
+        /// The filter, or a shared subscription.
+        filter: &'a str,
+    },
+    /// Whether a client with any id can be sent anything.
+    ReachAny {
+        /// The file of the list.
+        file: &'a str,
+        /// The client's user name, if it has one.
+        user: Option<&'a str>,
+        /// The filter.
+        wanted: &'a str,
+    },
+    /// Which subscriptions of a script can be sent nothing.
+    ReachAll {
+        /// The file of the list.
+        file: &'a str,
+        /// The file of the script.
+        script: &'a str,
+    },
+    /// Who may read or write what a filter matches.
+    Who {
+        /// The file of the list.
+        file: &'a str,
+        /// The filter.
+        wanted: &'a str,
+        /// Of whom it is told.
+        selection: Selection<'a>,
+        /// The file of a script whose publishes are counted, if one is given.
+        script: Option<&'a str>,
+    },
+    /// Whether lists are as is expected of them.
+    Test {
+        /// The file of what is expected.
+        expected: &'a str,
+        /// The files of the lists, if others than those that it names are meant.
+        lists: Vec<&'a str>,
+        /// The file to write the same to as JUnit's XML, if one is wanted.
+        junit: Option<&'a str>,
+    },
+}
+
+impl Question<'_> {
+    /// How many of its files are standard input.
+    pub(crate) fn input_count(&self) -> usize
+        ensures { result ≡ input_count (files_of (question_view self.now)) }
+    {
+        match self {
+            Question::Compare {
+                old,
+                new,
+                script,
+                ..
+            } => inputs_among(&[*old, *new]) + input_in(*script),
+            Question::Why { file, .. } => inputs_among(&[*file]),
+            Question::Lint { files } => inputs_among(files.as_slice()),
+            Question::Reach { file, .. } => inputs_among(&[*file]),
+            Question::ReachAny { file, .. } => inputs_among(&[*file]),
+            Question::ReachAll { file, script } => inputs_among(&[*file, *script]),
+            Question::Who { file, script, .. } => inputs_among(&[*file]) + input_in(*script),
+            Question::Test {
+                expected,
+                lists,
+                ..
+            } => { inputs_among(&[*expected]) + inputs_among(lists.as_slice()) }
+        }
+    }
+}

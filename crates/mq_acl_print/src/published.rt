@@ -1,0 +1,68 @@
+//! How many publishes of a script that is about which is shown.
+use crate::json::Datum;
+use mq_acl::{Owner, Row};
+use mq_findings::Reason;
+use mq_topic::LevelText;
+use mq_traffic::{Publishes, TopicPattern, Traffic};
+use std::alloc::{AllocError, Global};
+
+/// The publishes of a script.
+#[derive(Clone, Copy, Drop)]
+pub struct ScriptTraffic<'a> {
+    /// The file of the script, as it is shown.
+    pub file: &'a str,
+    /// Its publishes.
+    pub traffic: &'a Traffic,
+}
+
+fn pattern_of(row: &Row) -> TopicPattern<'_> {
+    TopicPattern {
+        filter: row.filter.text(),
+        has_marks: matches!(row.owner, Owner::Everyone),
+    }
+}
+
+// The row of this line. The rows stand in the order of their lines.
+fn row_at(rows: &[Row], line: u64) -> Option<&Row> {
+    let place = rows.partition_point(|row| row.line < line);
+    rows.get(place)
+}
+
+/// Adds the filter of the line that decides, if one does.
+pub(crate) fn add_pattern<'a>(
+    patterns: &mut Vec<TopicPattern<'a>>,
+    rows: &'a [Row],
+    reason: Reason,
+) -> Result<(), AllocError> {
+    let Some(line) = reason.line() else {
+        return Ok(());
+    };
+    if let Some(row) = row_at(rows, line) {
+        patterns.push(pattern_of(row))?;
+    }
+    Ok(())
+}
+
+fn plural(count: u64, ending: &'static str) -> &'static str {
+    if count == 1 { "" } else { ending }
+}
+
+/// How many they are, in words.
+pub(crate) fn publishes_text(alloc: Global, publishes: Publishes) -> Result<String, AllocError> {
+    let Publishes { count, topics } = publishes;
+    if count == 0 {
+        return String::from_str(alloc, "no publish");
+    }
+    let (of_count, of_topics) = (plural(count, "es"), plural(topics, "s"));
+    format!(in alloc; "at most {count} publish{of_count} to {topics} topic{of_topics}")
+}
+
+/// Adds how many they are to the data of a JSON object.
+pub(crate) fn add_counts(
+    data: &mut Vec<(&'static str, Datum<'_>)>,
+    publishes: Publishes,
+) -> Result<(), AllocError> {
+    data.push(("publishes", Datum::Number(publishes.count)))?;
+    data.push(("topics", Datum::Number(publishes.topics)))?;
+    Ok(())
+}
