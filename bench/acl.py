@@ -37,6 +37,18 @@ def machine_filters(count: int) -> list[str]:
              f"plant/hall-{machine % halls}/#")[machine % 3] for machine in range(count)]
 
 
+def claims(users: int, count: int) -> list[str]:
+    """Lines of a file of expectations, of each kind in turn."""
+    whom = [f"u{place % users}" for place in range(count)]
+    lines = []
+    for place, user in enumerate(whom):
+        topic = f"plant/hall-{place % lists.HALLS}/m{place}"
+        lines.append((f"{user} may some read {topic}/#", f"{user} may not write {topic}/+/set",
+                      f"anyone may not write {topic}/secret except {user}",
+                      f"others may not read {topic}/#")[place % 4])
+    return lines
+
+
 def questions() -> list[tuple[str, str, list[str], list[str] | None]]:
     """What is asked: the question, the list in words, the list, and a second list or a script."""
     plant, areas = lists.made(10_000, 1_000), lists.areas(10_000)
@@ -46,6 +58,8 @@ def questions() -> list[tuple[str, str, list[str], list[str] | None]]:
     one_user = [pattern, "user ops", *lists.areas(200)]
     users = lists.of_users("area", 4_500, 10)
     hard = lists.reversed_pair
+    floor = lists.made(1_000, 50)
+    patterns = [f"pattern read own/{place}/%c/#" for place in range(50)]
     return [
         ("compare", "10,000 lines, 1,000 users, equal", plant, plant),
         ("compare", "one line more", plant, [*plant, "topic read other/#"]),
@@ -72,7 +86,26 @@ def questions() -> list[tuple[str, str, list[str], list[str] | None]]:
          subscribes(plant_users, machine_filters(10_000))),
         ("reach", "10,000 subscribes, 10,000 lines of one owner", areas,
          subscribes([None], [f"area/{place}/+" for place in range(10_000)])),
+        ("who", "10,000 lines, 1,000 users: `plant/+/m7/#`", plant, ["plant/+/m7/#"]),
+        ("who", "10,000 lines, 1,000 users: `plant/#`", plant, ["plant/#"]),
+        ("test", "100 claims, 1,000 lines, 50 users", floor, claims(50, 100)),
+        ("test", "100 claims, the same and 50 `%c` patterns", [*patterns, *floor],
+         claims(50, 100)),
+        ("test", "100 claims, 10,000 lines, 1,000 users", plant, claims(1_000, 100)),
     ]
+
+
+def words_of(program: str, question: str, old: pathlib.Path, second: pathlib.Path,
+             asked: list[str] | None) -> list[str]:
+    """The words of a question about the list in the first file."""
+    if question == "who" and asked is not None:
+        return [program, "who", str(old), asked[0]]
+    if question == "test":
+        return [program, "test", str(second), str(old)]
+    if asked is None:
+        return [program, question, str(old)]
+    option = ["--script"] if question == "reach" else []
+    return [program, question, str(old), *option, str(second)]
 
 
 def limited() -> None:
@@ -113,10 +146,9 @@ def main() -> int:
         old, other = folder / "old", folder / "other"
         for question, what, rows, second in questions():
             old.write_text("\n".join(rows) + "\n")
-            words = [program, question, str(old)]
             if second is not None:
                 other.write_text("\n".join(second) + "\n")
-                words += ["--script", str(other)] if question == "reach" else [str(other)]
+            words = words_of(program, question, old, other, second)
             print(f"| {question} | {what} | {measured(words)} |", flush=True)
     return 0
 
