@@ -1,6 +1,6 @@
 #!/usr/bin/env python3
-"""Answers a script as mqroute does, by another reading: README.md and docs/DEFINITIONS.md put into
-Python's lists (plain/).
+"""Answers a script as mqroute does, by another reading: docs/reference and docs/DEFINITIONS.md put
+into Python's lists (plain/).
 
 It has no tree, no index and no queue of turns: each command looks at every row of every list, so it
 is slow, and its answers owe nothing to mqroute's code. What tests/rows wants is written by it where

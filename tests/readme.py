@@ -1,11 +1,12 @@
 #!/usr/bin/env python3
-"""Runs the README's blocks as they stand, each from the top of a copy, and compares what they
-print.
+"""Runs the blocks of README and docs/reference as they stand, each from the top of a copy, and
+compares what they print.
 
 A block of lines that begin with `$ ` is a session: what follows a command is what it prints. A
 block of objects with `do` is a script: the program accepts each of its lines. Without a jq the
 sessions that call it are left out, and it says so.
-With `--installed ROOT` README, files and programs are those of a package that is unpacked in ROOT.
+With `--installed ROOT` README, files and programs are those of a package that is unpacked in ROOT,
+and docs/reference, whose files it hasn't, is left out.
 """
 import argparse
 import os
@@ -21,9 +22,9 @@ from faults import is_absent, status_of
 TOP = pathlib.Path(__file__).resolve().parent.parent
 
 
-def blocks(top):
-    text = (top / "README.md").read_text(encoding="utf-8")
-    return re.findall(r"^```\n(.*?)^```$", text, re.S | re.M)
+def blocks(pages):
+    return [block for page in pages for block in re.findall(
+        r"^```\n(.*?)^```$", page.read_text(encoding="utf-8"), re.S | re.M)]
 
 
 def told(command, folder, path):
@@ -53,12 +54,12 @@ def script_faults(block, programs):
                f"{answered.stdout}")
 
 
-def block_faults(top, programs, path):
+def block_faults(top, pages, programs, path):
     """What is wrong with each block that is run, in a copy of the files at the top."""
     with tempfile.TemporaryDirectory() as folder:
-        for name in ("examples", "brokers"):
+        for name in ("examples", "brokers", "docs"):
             shutil.copytree(top / name, pathlib.Path(folder, name))
-        for block in blocks(top):
+        for block in blocks(pages):
             if block.startswith("$ ") and "jq " in block and shutil.which("jq") is None:
                 print("readme: there is no jq: its session was not run")
             elif block.startswith("$ "):
@@ -78,11 +79,12 @@ def main() -> int:
         return 1
     # Beside an installed program stands the system alone: no toolchain.
     path = f"{programs}:/usr/bin:/bin" if root else f"{programs}:{os.environ['PATH']}"
-    found = list(block_faults(top, programs, path))
+    pages = [top / "README.md"] + ([] if root else sorted((top / "docs/reference").glob("*.md")))
+    found = list(block_faults(top, pages, programs, path))
     faults = [fault for _, some in found for fault in some]
     count = [sum(it == kind for it, _ in found) for kind in ("session", "script")]
     sums = f"{count[0]} sessions and {count[1]} scripts, {len(faults)} faults"
-    return status_of("readme", faults, sums) or int(not all(count))
+    return status_of("readme", faults, sums) or int(not count[0])
 
 
 sys.exit(main())
