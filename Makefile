@@ -42,6 +42,7 @@ check: programs
 	tests/build.py
 	tests/acl.py
 	tests/readme.py
+	tests/links.py
 	tests/package.sh
 	tests/linted.sh
 	python3 -m unittest discover -s tools/tests
