@@ -37,8 +37,8 @@ class Fields(unittest.TestCase):
             command.update({name: told(kind, absent) for name in NAME.findall(fields)})
         self.assertEqual(found, COMMANDS)
 
-    def test_readme(self):
-        text = (TOP / "README.md").read_text("utf-8")
+    def test_reference(self):
+        text = (TOP / "docs/reference/script.md").read_text("utf-8")
         defaults = {name: default for _, _, name, _, default in self.definitions()}
         found = {}
         for do, required, optional in rows(
