@@ -26,6 +26,8 @@ use Rattle.mq_acl_args.specs.Files.{input_count, script_file}
 use Rattle.mq_acl_args.specs.declared.command_line.Subcommand.{Subcommand}
 use Rattle.mq_acl_args.specs.declared.request.Request.{Request}
 use Rattle.mq_acl_args.specs.declared.client.Client.{Client}
+use Rattle.mq_acl_args.specs.declared.question.Subscriptions.{Subscriptions}
+use Rattle.mq_acl_args.specs.declared.question.Subscriptions.TheVariants as about
 use Rattle.mq_acl_args.specs.declared.question.Question.{Question}
 use Rattle.mq_acl_args.specs.declared.question.Question.TheVariants as asks
 
@@ -284,16 +286,19 @@ asked_by subcommand =
 abbrev pub client_view : Client → ClientAsked
 client_view client = record { id = client.id.now; user = option_copied client.user }
 
+-- what is asked of this file about these
+abbrev pub reach_view : Text → Subscriptions → Asked
+reach_view file (about.Of client filter) = Reach file (client_view client) filter.now
+reach_view file (about.OfAny user wanted) = ReachAny file (option_copied user) wanted.now
+reach_view file (about.In script) = ReachAll file script.now
+
 abbrev pub question_view : Question → Asked
 question_view (asks.Compare old new only script) =
     Compare old.now new.now only (option_copied script)
 question_view (asks.Why file client topic may) =
     Why file.now (client_view client) topic.now may
 question_view (asks.Lint files) = Lint (map (λ file. file.now) files.items)
-question_view (asks.Reach file client filter) = Reach file.now (client_view client) filter.now
-question_view (asks.ReachAny file user wanted) =
-    ReachAny file.now (option_copied user) wanted.now
-question_view (asks.ReachAll file script) = ReachAll file.now script.now
+question_view (asks.Reach file subscriptions) = reach_view file.now subscriptions
 question_view (asks.Who file wanted selection script) =
     Who file.now wanted.now selection.access (option_copied selection.only) (option_copied script)
 question_view (asks.Test expected lists junit) =

@@ -1,6 +1,6 @@
 //! The questions that a command line asks.
 ghost use Rattle.std.specs.Prelude.{◌≡◌};
-ghost use Rattle.mq_acl_args.specs.CommandLine.{files_of, question_view};
+ghost use Rattle.mq_acl_args.specs.CommandLine.{files_of, question_view, reach_view};
 ghost use Rattle.mq_acl_args.specs.Files.{input_count};
 
 use crate::client::Client;
@@ -8,6 +8,39 @@ use crate::files::{input_in, inputs_among};
 use crate::selection::Selection;
 use mq_acl::Direction;
 use mq_findings::Way;
+
+/// Which subscriptions it is asked about.
+#[derive(Clone, Copy, Drop)]
+pub enum Subscriptions<'a> {
+    /// One of a client.
+    Of {
+        client: Client<'a>,
+        /// The filter, or a shared subscription.
+        filter: &'a str,
+    },
+    /// One of clients with any id.
+    OfAny {
+        /// Their user name, if they have one.
+        user: Option<&'a str>,
+        /// The filter.
+        wanted: &'a str,
+    },
+    /// All of a script, in this file.
+    In(&'a str),
+}
+
+impl Subscriptions<'_> {
+    // How many files of the question are standard input, beside this list.
+    fn input_count(&self, file: &str) -> usize
+        ensures { result ≡ input_count (files_of (reach_view file.now self.now)) }
+    {
+        match self {
+            Subscriptions::Of { .. } => inputs_among(&[file]),
+            Subscriptions::OfAny { .. } => inputs_among(&[file]),
+            Subscriptions::In(script) => inputs_among(&[file, *script]),
+        }
+    }
+}
 
 /// A question to access lists, each in a file.
 #[derive(Drop)]
@@ -33,30 +66,11 @@ pub enum Question<'a> {
     Lint {
         files: Vec<&'a str>,
     },
-    /// Whether a subscription of a client can be sent anything.
+    /// Whether subscriptions can be sent anything.
     Reach {
         /// The file of the list.
         file: &'a str,
-        /// The client.
-        client: Client<'a>,
-        /// The filter, or a shared subscription.
-        filter: &'a str,
-    },
-    /// Whether a client with any id can be sent anything.
-    ReachAny {
-        /// The file of the list.
-        file: &'a str,
-        /// The client's user name, if it has one.
-        user: Option<&'a str>,
-        /// The filter.
-        wanted: &'a str,
-    },
-    /// Which subscriptions of a script can be sent nothing.
-    ReachAll {
-        /// The file of the list.
-        file: &'a str,
-        /// The file of the script.
-        script: &'a str,
+        subscriptions: Subscriptions<'a>,
     },
     /// Who may read or write what a filter matches.
     Who {
@@ -94,9 +108,10 @@ impl Question<'_> {
             } => inputs_among(&[*old, *new]) + input_in(*script),
             Question::Why { file, .. } => inputs_among(&[*file]),
             Question::Lint { files } => inputs_among(files.as_slice()),
-            Question::Reach { file, .. } => inputs_among(&[*file]),
-            Question::ReachAny { file, .. } => inputs_among(&[*file]),
-            Question::ReachAll { file, script } => inputs_among(&[*file, *script]),
+            Question::Reach {
+                file,
+                subscriptions,
+            } => subscriptions.input_count(file),
             Question::Who { file, script, .. } => inputs_among(&[*file]) + input_in(*script),
             Question::Test {
                 expected,

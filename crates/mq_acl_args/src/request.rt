@@ -11,7 +11,7 @@ ghost use Rattle.mq_acl_args.specs.CommandLine.{who_asked_by, why_asked_by};
 
 use crate::client::Client;
 use crate::options::Options;
-use crate::question::Question;
+use crate::question::{Question, Subscriptions};
 use crate::selection::Selection;
 use clap::ArgMatches;
 use mq_acl::{Direction, Rules};
@@ -146,11 +146,14 @@ fn reach_one_in<'a>(matches: &ArgMatches<'a>, user: Option<&'a str>) -> Option<Q
         value(matches, "CLIENT"),
         value(matches, "FILTER"),
     ) {
-        (Some(file), Some(id), Some(filter)) => Some(Question::Reach {
-            file,
-            client: Client { id, user },
-            filter,
-        }),
+        (Some(file), Some(id), Some(filter)) => {
+            let client = Client { id, user };
+            let subscriptions = Subscriptions::Of { client, filter };
+            Some(Question::Reach {
+                file,
+                subscriptions,
+            })
+        }
         _ => None,
     }
 }
@@ -166,13 +169,17 @@ fn reach_any_in<'a>(
         (first_of (codes "FILTER") rows) (option_copied user.entry) (first_of (codes "script") rows)
         wanted.entry.now }
 {
+    let subscriptions = Subscriptions::OfAny { user, wanted };
     match (
         value(matches, "FILE"),
         value(matches, "CLIENT"),
         value(matches, "FILTER"),
         value(matches, "script"),
     ) {
-        (Some(file), None, None, None) => Some(Question::ReachAny { file, user, wanted }),
+        (Some(file), None, None, None) => Some(Question::Reach {
+            file,
+            subscriptions,
+        }),
         _ => None,
     }
 }
@@ -193,7 +200,10 @@ fn reach_all_in<'a>(
         value(matches, "FILTER"),
         user,
     ) {
-        (Some(file), None, None, None) => Some(Question::ReachAll { file, script }),
+        (Some(file), None, None, None) => Some(Question::Reach {
+            file,
+            subscriptions: Subscriptions::In(script),
+        }),
         _ => None,
     }
 }

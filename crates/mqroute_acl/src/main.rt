@@ -5,6 +5,7 @@ mod files;
 mod lint;
 mod list_file;
 mod program;
+mod reach;
 mod test;
 
 use crate::program::start;

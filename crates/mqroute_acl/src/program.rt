@@ -7,11 +7,9 @@ ghost use Rattle.mq_acl_args.specs.CommandLine.{Asked, IsFaultOf, ReadsInputOnce
 ghost use Rattle.mq_acl_args.specs.CommandLine.{fault_of, files_of, mqroute_acl, question_view};
 ghost use Rattle.mq_acl_args.specs.CommandLine.{noted_given, rules_given, subcommand_of};
 ghost use Rattle.mq_acl_args.specs.CommandLine.{values_of};
-ghost use Rattle.mq_acl_args.specs.Files.{input_count, is_input as is_dash, script_file};
-ghost use Rattle.mq_acl_answers.specs.Answers.{IsCompared, IsExplained, IsReached};
+ghost use Rattle.mq_acl_args.specs.Files.{input_count, script_file};
+ghost use Rattle.mq_acl_answers.specs.Answers.{IsCompared, IsExplained};
 ghost use Rattle.mq_acl_answers.specs.Notes.{IsQuiet};
-ghost use Rattle.mq_acl_answers.specs.ReachAny.{IsReachedByAny};
-ghost use Rattle.mq_acl_answers.specs.Script.{AreTold};
 ghost use Rattle.mq_acl_answers.specs.Statuses.{failure_status};
 ghost use Rattle.mq_acl_answers.specs.Who.{IsWho};
 ghost use Rattle.mqroute_acl.specs.Files.{IsTextOf};
@@ -19,19 +17,18 @@ ghost use Rattle.mqroute_acl.specs.Program.{IsAnswer, IsAnswered, TellsUsage};
 
 use crate::files::{text_of, traffic_of};
 use crate::lint::answer_lint;
+use crate::reach::answer_reach;
 use crate::test::answer_test;
 use mq_acl::Direction;
 use mq_acl_answers::{
-    FAILED, Failure, Outcome, UNREADABLE, print, tell_changes, tell_reach, tell_reach_any,
-    tell_subscriptions, tell_who, tell_why,
+    FAILED, Failure, Outcome, UNREADABLE, print, tell_changes, tell_who, tell_why,
 };
-use mq_acl_args::{Client, Options, Question, Request, Selection, arguments, is_input};
+use mq_acl_args::{Client, Options, Question, Request, Selection, arguments};
 use mq_acl_print::{ListText, ScriptTraffic};
 use mq_args::UsageFault;
 use mq_findings::Way;
 use mq_traffic::Traffic;
 use std::alloc::{AllocError, Global};
-use std::fs;
 use std::io::{Read, Write};
 use std::rt::Files;
 
@@ -111,115 +108,6 @@ fn answer_why<'a, R: Files, I: Read, W: Write>(
     tell_why(alloc, list, client, topic, may, options, out, notes)
 }
 
-/// Of a client and its subscription.
-fn answer_reach<'a, R: Files, I: Read, W: Write>(
-    rt: &R,
-    alloc: Global,
-    file: &'a str,
-    about: (Client<'a>, &'a str),
-    options: Options,
-    input: &mut I,
-    out: &mut W,
-    notes: &mut String,
-) -> Result<Outcome, Failure<'a>>
-    ensures ok { IfOk result (λ outcome. (text : List ℕ)
-        × IsTextOf (I.remaining input.old) file.entry.now text
-        × IsReached options.rules text about.entry.0.id.now (option_copied about.entry.0.user)
-        about.entry.1.now outcome
-        × (options.rules ≡ Own → IsQuiet options.noted text → notes.new ≡ notes.old)) }
-    ensures unread { IfErr result (λ failure. failure_status failure ≡ 2 → out.new ≡ out.old) }
-    ensures kept { input_count (file.entry.now ∷ []) ≡ 0 → input.new ≡ input.old }
-{
-    let text = text_of(rt, alloc, file, input)?;
-    let list = ListText {
-        file,
-        text: text.as_str(),
-    };
-    tell_reach(alloc, list, about.0, about.1, options, out, notes)
-}
-
-/// Of a file, a user name or none, and a filter: of clients with any id.
-fn answer_reach_any<'a, R: Files, I: Read, W: Write>(
-    rt: &R,
-    alloc: Global,
-    about: (&'a str, Option<&'a str>, &'a str),
-    options: Options,
-    input: &mut I,
-    out: &mut W,
-    notes: &mut String,
-) -> Result<Outcome, Failure<'a>>
-    ensures ok { IfOk result (λ outcome. (text : List ℕ)
-        × IsTextOf (I.remaining input.old) about.entry.0.now text
-        × IsReachedByAny options.rules text (option_copied about.entry.1) about.entry.2.now outcome
-        × (options.rules ≡ Own → IsQuiet options.noted text → notes.new ≡ notes.old)) }
-    ensures unread { IfErr result (λ failure. failure_status failure ≡ 2 → out.new ≡ out.old) }
-    ensures kept { input_count (about.entry.0.now ∷ []) ≡ 0 → input.new ≡ input.old }
-{
-    let text = text_of(rt, alloc, about.0, input)?;
-    let list = ListText {
-        file: about.0,
-        text: text.as_str(),
-    };
-    tell_reach_any(alloc, list, about.1, about.2, options, out, notes)
-}
-
-/// Of the script in a file.
-fn answer_script<'a, R: Files, I: Read, W: Write>(
-    rt: &R,
-    alloc: Global,
-    list: ListText<'a, '_>,
-    script: &'a str,
-    options: Options,
-    input: &mut I,
-    out: &mut W,
-    notes: &mut String,
-) -> Result<Outcome, Failure<'a>>
-    ensures ok { IfOk result (λ outcome. (lines : List ℕ)
-        × IsTextOf (I.remaining input.old) script.entry.now lines
-        × AreTold options.rules list.entry.text.now lines outcome
-        × (options.rules ≡ Own → IsQuiet options.noted list.entry.text.now
-        → notes.new ≡ notes.old)) }
-    ensures unread { IfErr result (λ failure. failure_status failure ≡ 2 → out.new ≡ out.old) }
-    ensures kept { is_dash script.entry.now ≡ false → input.new ≡ input.old }
-{
-    if is_input(script) {
-        return tell_subscriptions(alloc, list, script, input, options, out, notes);
-    }
-    match fs::open(rt, script) {
-        Ok(mut opened) => tell_subscriptions(alloc, list, script, &mut opened, options, out, notes),
-        Err(error) => Err(Failure::of_io(script, error)),
-    }
-}
-
-/// Of all subscriptions of a script.
-fn answer_reach_all<'a, R: Files, I: Read, W: Write>(
-    rt: &R,
-    alloc: Global,
-    file: &'a str,
-    script: &'a str,
-    options: Options,
-    input: &mut I,
-    out: &mut W,
-    notes: &mut String,
-) -> Result<Outcome, Failure<'a>>
-    requires { input_count (file.now ∷ script.now ∷ []) ≤ 1 }
-    ensures ok { IfOk result (λ outcome. (text lines : List ℕ)
-        × IsTextOf (I.remaining input.old) file.entry.now text
-        × IsTextOf (I.remaining input.old) script.entry.now lines
-        × AreTold options.rules text lines outcome
-        × (options.rules ≡ Own → IsQuiet options.noted text → notes.new ≡ notes.old)) }
-    ensures unread { IfErr result (λ failure. failure_status failure ≡ 2 → out.new ≡ out.old) }
-    ensures kept { input_count (file.entry.now ∷ script.entry.now ∷ []) ≡ 0
-        → input.new ≡ input.old }
-{
-    let text = text_of(rt, alloc, file, input)?;
-    let list = ListText {
-        file,
-        text: text.as_str(),
-    };
-    answer_script(rt, alloc, list, script, options, input, out, notes)
-}
-
 /// Of a file, a filter, those of whom it is told, and a script if one is given.
 fn answer_who<'a, R: Files, I: Read, W: Write>(
     rt: &R,
@@ -295,19 +183,8 @@ fn answer<'a, R: Files, I: Read, W: Write>(
         }
         Question::Reach {
             file,
-            client,
-            filter,
-        } => {
-            let about = (client, filter);
-            answer_reach(rt, alloc, file, about, options, input, out, notes)
-        }
-        Question::ReachAny { file, user, wanted } => {
-            let about = (file, user, wanted);
-            answer_reach_any(rt, alloc, about, options, input, out, notes)
-        }
-        Question::ReachAll { file, script } => {
-            answer_reach_all(rt, alloc, file, script, options, input, out, notes)
-        }
+            subscriptions,
+        } => answer_reach(rt, alloc, file, subscriptions, options, input, out, notes),
         Question::Who {
             file,
             wanted,
@@ -383,10 +260,13 @@ fn report_usage<W: Write, E: Write>(
     }
 }
 
-/// Runs the program: `words` are its name and its arguments, answers that have colours are `coloured`, `input` is read for the file `-`, answers go to `out`, and a
-/// line on `err` says what failed. Answers the exit status: 0 where nothing is to be remarked or help was asked for, 1
-/// where something is, 2 where the words are not understood, a file can't be opened, read or understood, or an answer takes
-/// more steps than are given, and 3 where a write failed or memory ran out, even if only for the line on `err`.
+/// Runs the program: `words` are its name and its arguments, `input` is read for the file `-`,
+/// answers go to `out`, in colours if they are `coloured`, and a line on `err` says what failed.
+///
+/// Answers the exit status: 0 where nothing is to be remarked or help was asked for, 1 where
+/// something is, 2 where the words are not understood, a file can't be opened, read or understood,
+/// or an answer takes more steps than are given, and 3 where a write failed or memory ran out, even
+/// if only for the line on `err`.
 pub(crate) fn start<R: Files, I: Read, W: Write, E: Write>(
     rt: &R,
     alloc: Global,

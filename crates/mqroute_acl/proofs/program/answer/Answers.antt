@@ -26,18 +26,6 @@ returns-in-Reach-clause-ok g c = rw c.in-Reach.is c.answer_reach.ensures.ok
 pub returns-in-Reach-clause-unread : goal.returns-in-Reach-clause-unread
 returns-in-Reach-clause-unread g c = c.answer_reach.ensures.unread
 
-pub returns-in-ReachAny-clause-ok : goal.returns-in-ReachAny-clause-ok
-returns-in-ReachAny-clause-ok g c = rw c.in-ReachAny.is c.answer_reach_any.ensures.ok
-
-pub returns-in-ReachAny-clause-unread : goal.returns-in-ReachAny-clause-unread
-returns-in-ReachAny-clause-unread g c = c.answer_reach_any.ensures.unread
-
-pub returns-in-ReachAll-clause-ok : goal.returns-in-ReachAll-clause-ok
-returns-in-ReachAll-clause-ok g c = rw c.in-ReachAll.is c.answer_reach_all.ensures.ok
-
-pub returns-in-ReachAll-clause-unread : goal.returns-in-ReachAll-clause-unread
-returns-in-ReachAll-clause-unread g c = c.answer_reach_all.ensures.unread
-
 pub returns-in-Who-clause-ok : goal.returns-in-Who-clause-ok
 returns-in-Who-clause-ok g c = rw c.in-Who.is c.answer_who.ensures.ok
 

@@ -1,0 +1,165 @@
+//! Whether subscriptions can be sent anything.
+ghost use Rattle.std.specs.Prelude.{◌≡◌, ◌≤◌, ◌∷◌, ℕ, List, [], IfOk, IfErr, false};
+ghost use Rattle.std.specs.Option.{option_copied};
+ghost use Rattle.mq_acl.specs.declared.rules.Rules.TheVariants.{Own};
+ghost use Rattle.mq_acl_args.specs.CommandLine.{ReadsInputOnce, files_of, reach_view};
+ghost use Rattle.mq_acl_args.specs.Files.{input_count, is_input as is_dash};
+ghost use Rattle.mq_acl_answers.specs.Answers.{IsReached};
+ghost use Rattle.mq_acl_answers.specs.Notes.{IsQuiet};
+ghost use Rattle.mq_acl_answers.specs.ReachAny.{IsReachedByAny};
+ghost use Rattle.mq_acl_answers.specs.Script.{AreTold};
+ghost use Rattle.mq_acl_answers.specs.Statuses.{failure_status};
+ghost use Rattle.mqroute_acl.specs.Files.{IsTextOf};
+ghost use Rattle.mqroute_acl.specs.Program.{IsAnswer};
+
+use crate::files::text_of;
+use mq_acl_answers::{Failure, Outcome, tell_reach, tell_reach_any, tell_subscriptions};
+use mq_acl_args::{Client, Options, Subscriptions, is_input};
+use mq_acl_print::ListText;
+use std::alloc::Global;
+use std::fs;
+use std::io::{Read, Write};
+use std::rt::Files;
+
+/// Of a client and its subscription.
+fn answer_reach_one<'a, R: Files, I: Read, W: Write>(
+    rt: &R,
+    alloc: Global,
+    file: &'a str,
+    about: (Client<'a>, &'a str),
+    options: Options,
+    input: &mut I,
+    out: &mut W,
+    notes: &mut String,
+) -> Result<Outcome, Failure<'a>>
+    ensures ok { IfOk result (λ outcome. (text : List ℕ)
+        × IsTextOf (I.remaining input.old) file.entry.now text
+        × IsReached options.rules text about.entry.0.id.now (option_copied about.entry.0.user)
+        about.entry.1.now outcome
+        × (options.rules ≡ Own → IsQuiet options.noted text → notes.new ≡ notes.old)) }
+    ensures unread { IfErr result (λ failure. failure_status failure ≡ 2 → out.new ≡ out.old) }
+    ensures kept { input_count (file.entry.now ∷ []) ≡ 0 → input.new ≡ input.old }
+{
+    let text = text_of(rt, alloc, file, input)?;
+    let list = ListText {
+        file,
+        text: text.as_str(),
+    };
+    tell_reach(alloc, list, about.0, about.1, options, out, notes)
+}
+
+/// Of a file, a user name or none, and a filter: of clients with any id.
+fn answer_reach_any<'a, R: Files, I: Read, W: Write>(
+    rt: &R,
+    alloc: Global,
+    about: (&'a str, Option<&'a str>, &'a str),
+    options: Options,
+    input: &mut I,
+    out: &mut W,
+    notes: &mut String,
+) -> Result<Outcome, Failure<'a>>
+    ensures ok { IfOk result (λ outcome. (text : List ℕ)
+        × IsTextOf (I.remaining input.old) about.entry.0.now text
+        × IsReachedByAny options.rules text (option_copied about.entry.1) about.entry.2.now outcome
+        × (options.rules ≡ Own → IsQuiet options.noted text → notes.new ≡ notes.old)) }
+    ensures unread { IfErr result (λ failure. failure_status failure ≡ 2 → out.new ≡ out.old) }
+    ensures kept { input_count (about.entry.0.now ∷ []) ≡ 0 → input.new ≡ input.old }
+{
+    let text = text_of(rt, alloc, about.0, input)?;
+    let list = ListText {
+        file: about.0,
+        text: text.as_str(),
+    };
+    tell_reach_any(alloc, list, about.1, about.2, options, out, notes)
+}
+
+/// Of the script in a file.
+fn answer_script<'a, R: Files, I: Read, W: Write>(
+    rt: &R,
+    alloc: Global,
+    list: ListText<'a, '_>,
+    script: &'a str,
+    options: Options,
+    input: &mut I,
+    out: &mut W,
+    notes: &mut String,
+) -> Result<Outcome, Failure<'a>>
+    ensures ok { IfOk result (λ outcome. (lines : List ℕ)
+        × IsTextOf (I.remaining input.old) script.entry.now lines
+        × AreTold options.rules list.entry.text.now lines outcome
+        × (options.rules ≡ Own → IsQuiet options.noted list.entry.text.now
+        → notes.new ≡ notes.old)) }
+    ensures unread { IfErr result (λ failure. failure_status failure ≡ 2 → out.new ≡ out.old) }
+    ensures kept { is_dash script.entry.now ≡ false → input.new ≡ input.old }
+{
+    if is_input(script) {
+        return tell_subscriptions(alloc, list, script, input, options, out, notes);
+    }
+    match fs::open(rt, script) {
+        Ok(mut opened) => tell_subscriptions(alloc, list, script, &mut opened, options, out, notes),
+        Err(error) => Err(Failure::of_io(script, error)),
+    }
+}
+
+/// Of all subscriptions of a script.
+fn answer_reach_all<'a, R: Files, I: Read, W: Write>(
+    rt: &R,
+    alloc: Global,
+    file: &'a str,
+    script: &'a str,
+    options: Options,
+    input: &mut I,
+    out: &mut W,
+    notes: &mut String,
+) -> Result<Outcome, Failure<'a>>
+    requires { input_count (file.now ∷ script.now ∷ []) ≤ 1 }
+    ensures ok { IfOk result (λ outcome. (text lines : List ℕ)
+        × IsTextOf (I.remaining input.old) file.entry.now text
+        × IsTextOf (I.remaining input.old) script.entry.now lines
+        × AreTold options.rules text lines outcome
+        × (options.rules ≡ Own → IsQuiet options.noted text → notes.new ≡ notes.old)) }
+    ensures unread { IfErr result (λ failure. failure_status failure ≡ 2 → out.new ≡ out.old) }
+    ensures kept { input_count (file.entry.now ∷ script.entry.now ∷ []) ≡ 0
+        → input.new ≡ input.old }
+{
+    let text = text_of(rt, alloc, file, input)?;
+    let list = ListText {
+        file,
+        text: text.as_str(),
+    };
+    answer_script(rt, alloc, list, script, options, input, out, notes)
+}
+
+/// Of a list, and of subscriptions.
+pub(crate) fn answer_reach<'a, R: Files, I: Read, W: Write>(
+    rt: &R,
+    alloc: Global,
+    file: &'a str,
+    subscriptions: Subscriptions<'a>,
+    options: Options,
+    input: &mut I,
+    out: &mut W,
+    notes: &mut String,
+) -> Result<Outcome, Failure<'a>>
+    requires { ReadsInputOnce (reach_view file.now subscriptions) }
+    ensures ok { IfOk result (λ outcome. IsAnswer options.rules options.noted
+        (I.remaining input.old) (reach_view file.entry.now subscriptions.entry) outcome
+        (notes.new ≡ notes.old)) }
+    ensures unread { IfErr result (λ failure. failure_status failure ≡ 2 → out.new ≡ out.old) }
+    ensures kept { input_count (files_of (reach_view file.entry.now subscriptions.entry)) ≡ 0
+        → input.new ≡ input.old }
+{
+    match subscriptions {
+        Subscriptions::Of { client, filter } => {
+            let about = (client, filter);
+            answer_reach_one(rt, alloc, file, about, options, input, out, notes)
+        }
+        Subscriptions::OfAny { user, wanted } => {
+            let about = (file, user, wanted);
+            answer_reach_any(rt, alloc, about, options, input, out, notes)
+        }
+        Subscriptions::In(script) => {
+            answer_reach_all(rt, alloc, file, script, options, input, out, notes)
+        }
+    }
+}
