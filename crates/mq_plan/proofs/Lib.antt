@@ -1,5 +1,4 @@
 mod ArrowLemmas
-mod JoinLemmas
 mod SideLemmas
 mod LoopLemmas
 mod PlaceLemmas

@@ -1,8 +1,8 @@
 -- Sides without a fault are topic filters, but for their names.
-use Rattle.std.proofs.Common.{◌≡◌, ◌==◌, ◌+◌, ◌-◌, ◌<◌, ◌≤◌, ◌&&◌, ◌||◌, not, Bool, true, false}
+use Rattle.std.proofs.Common.{◌≡◌, ◌==◌, ◌+◌, ◌<◌, ◌≤◌, ◌&&◌, ◌||◌, not, Bool, true, false}
 use Rattle.std.proofs.Common.{cond, ℕ, List, []}
-use Rattle.std.proofs.Common.{◌∷◌, length, map, take, Option, Some, None, refl, ap, sym, ◌∙◌}
-use Rattle.std.proofs.Common.{arith, suc}
+use Rattle.std.proofs.Common.{◌∷◌, length, map, Option, Some, None, refl, ap, sym, ◌∙◌}
+use Rattle.std.proofs.Common.{arith}
 use Rattle.std.specs.Prelude.{codes, nat_le, nat_lt, slice_get}
 use Rattle.std.specs.List.{cons_option, enumerate_from, filter_map, list_all}
 use Rattle.std.specs.Str.{bytes_eq}
@@ -15,13 +15,14 @@ use Rattle.mq_topic.specs.Texts.{contains_byte, is_filter, is_level, is_text, pa
 use Rattle.mq_topic.specs.Texts.{wildcards_fit}
 use Rattle.mq_topic.proofs.Walk.{levels-nonempty}
 use Rattle.mq_rename.specs.Lists.{has_long, is_hash, is_long}
+use Rattle.mq_rename.proofs.FitLemmas.{all_lack, levels_without, parents-cons}
+use Rattle.mq_rename.proofs.JoinLemmas.{joined, joined_lacks, joined_short, joined_some}
+use Rattle.mq_rename.proofs.JoinLemmas.{levels-joined}
 use Rattle.mq_plan.specs.Sides.{begins_with_plus, first_level_fault, is_capture, is_fit}
 use Rattle.mq_plan.specs.Sides.{is_long_side}
 use Rattle.mq_plan.specs.Sides.{is_mark, level_fault, plain, plain_levels, plain_text, side_fault}
 use Rattle.mq_plan.specs.declared.fault.Side.{Side}
 use Rattle.mq_plan.specs.declared.fault.PlanKind.TheVariants as kinds
-use Rattle.mq_plan.proofs.JoinLemmas.{all_lack, joined, joined_lacks, joined_short, joined_some}
-use Rattle.mq_plan.proofs.JoinLemmas.{levels-joined, levels_without}
 
 -- a list without a first element
 pub none_first : {X : Type 0} (xs : List X) → slice_get xs 0 ≡ None → xs ≡ []
@@ -105,12 +106,6 @@ pub record AreFit (ls : List (List ℕ)) : Type 0 where
   pub level : list_all is_level ls ≡ true
   pub hash : all_lack 35 (parents ls) ≡ true
   pub short : has_long ls ≡ false
-
-parents-cons : (l m : List ℕ) (ms : List (List ℕ)) → parents (l ∷ m ∷ ms) ≡ l ∷ parents (m ∷ ms)
-parents-cons l m ms =
-    let more : length (l ∷ m ∷ ms) - 1 ≡ suc (length ms) = omega arith in
-    let less : length (m ∷ ms) - 1 ≡ length ms = omega arith in
-    ap (λ k. take k (l ∷ m ∷ ms)) more ∙ ap (λ k. l ∷ take k (m ∷ ms)) (sym less)
 
 -- one more in front
 hash_on : (last : Bool) (l : List ℕ) (ms : List (List ℕ)) → (0 < length ms → last ≡ false)

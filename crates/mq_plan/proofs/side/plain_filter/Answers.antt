@@ -4,7 +4,7 @@ use Rattle.mq_topic.specs.declared.fault.TopicFault.{TopicFault}
 use Rattle.mq_topic.specs.declared.fault.TopicFault.TheVariants.{Memory}
 use Rattle.mq_rename.specs.Lists.{texts}
 use Rattle.mq_plan.specs.Sides.{plain_levels, plain_text}
-use Rattle.mq_plan.proofs.JoinLemmas.{joined, joined_is}
+use Rattle.mq_rename.proofs.JoinLemmas.{joined, joined_is}
 use Rattle.mq_plan.proofs.SideLemmas.{plain_is_filter, side_is}
 use Rattle.mq_plan.proofs.side.plain_filter.Goals as goal
 
