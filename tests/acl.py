@@ -68,11 +68,11 @@ may not write: no line allows it
 """),
     (["lint", "current.acl"], 0, ""),
     (["lint", "proposed.acl"], 1,
-     "proposed.acl:15: a pattern line without %c and %u is for all clients alike\n"
+     "proposed.acl:15: a pattern line without %c and %u applies to every client\n"
      "    pattern read mill/notes\n"),
     (["lint", "--json", "proposed.acl"], 1, """\
 {"file":"proposed.acl","kind":"no mark","line":15,"other":null,"text":"pattern read mill/notes",\
-"words":"a pattern line without %c and %u is for all clients alike"}
+"words":"a pattern line without %c and %u applies to every client"}
 """),
     (["reach", "current.acl", "screen", "mill/+/east"], 0,
      "client screen, no user name: mill/+/east can be sent mill/energy/east\n"),
@@ -87,24 +87,24 @@ may not write: no line allows it
     (["reach", "current.acl", "--any", "mill/line1/#", "--user", "plc"], 1,
      "any client id, user plc: mill/line1/# can be sent nothing\n"),
     (["reach", "--json", "current.acl", "--any", "mill/line1/#", "--user", "plc"], 1,
-     '{"client":null,"filter":"mill/line1/#","line":null,"made_up":[],"topic":null,'
+     '{"client":null,"filter":"mill/line1/#","line":null,"placeholders":[],"topic":null,'
      '"user":"plc"}\n'),
     (["reach", "--json", "current.acl", "press", "$share/g/mill/orders/+", "--user=plc"], 0,
      '{"filter":"$share/g/mill/orders/+","topic":"mill/orders/press"}\n'),
     (["reach", "current.acl", "--script", "day.jsonl"], 1, """\
 day.jsonl:7   press  user plc      mill/line1/#
 day.jsonl:11  wall   no user name  mill/line1/press/state
-2 of 5 subscriptions in vain
+2 of 5 subscriptions can receive nothing
 """),
     (["reach", "--json", "current.acl", "--script=day.jsonl"], 1, """\
 {"client":"press","file":"day.jsonl","filter":"mill/line1/#","line":7,"user":"plc"}
 {"client":"wall","file":"day.jsonl","filter":"mill/line1/press/state","line":11,"user":null}
-{"first_no_command":null,"in_vain":2,"no_commands":0,"subscriptions":5}
+{"first_invalid_line":null,"invalid_lines":0,"receive_nothing":2,"subscriptions":5}
 """),
 ]
 
-# A script of which little is in vain or no command: its lines, and what is told under a list that
-# grants `a`.
+# A script with few subscriptions that can receive nothing and few invalid lines: its lines, and
+# what is shown under a list that grants `a`.
 ODD_SCRIPT = """\
 {"do":"subscribe","client":"c","filter":"b"}
 
@@ -129,13 +129,13 @@ topic\tread b
 user
 """
 REMARKS = """\
-a.acl:1: "rw" is no access: read, write, readwrite or deny
+a.acl:1: unknown access "rw": expected read, write, readwrite or deny
     topic rw a
-a.acl:2: a pattern line without %c and %u is for all clients alike
+a.acl:2: a pattern line without %c and %u applies to every client
     pattern read a
-a.acl:3: mosquitto 2.0 takes # for a comment in the first column alone
+a.acl:3: mosquitto 2.0 takes # for a comment in the first column only
     # indented
-a.acl:4: mosquitto 2.0 parts words at spaces alone, not at tabs
+a.acl:4: mosquitto 2.0 separates words by spaces only, not by tabs
     topic\tread b
 a.acl:5: the user name is missing
     user
@@ -150,12 +150,12 @@ topic read c/d
 
 # Lists that are refused: their text, and what is told of the first faulty line.
 FAULTY = [
-    ("topic rw a\n", '1: "rw" is no access: read, write, readwrite or deny'),
-    ("\ntopics read a\n", '2: "topics" is no keyword: topic, pattern or user'),
+    ("topic rw a\n", '1: unknown access "rw": expected read, write, readwrite or deny'),
+    ("\ntopics read a\n", '2: unknown keyword "topics": expected topic, pattern or user'),
     ("topic read\n\ntopic\n", "3: the topic is missing"),
-    ("topic read a/#/b\n", '1: "a/#/b" is no topic filter'),
+    ("topic read a/#/b\n", '1: "a/#/b" is not a topic filter'),
     ("user\n", "1: the user name is missing"),
-    ("pattern read a%c/b\n", '1: %c or %u is no whole level of "a%c/b"'),
+    ("pattern read a%c/b\n", '1: %c and %u must be whole levels: "a%c/b"'),
     ("topic read a\ntopic read " + "b" * 301 + "\n",
      "2: a level or a user name of more than 300 bytes"),
 ]
@@ -173,9 +173,9 @@ MISUSED = [
     ([], "requires a subcommand"),
     (["compare", "current.acl"], "<NEW>"),
     (["melt", "current.acl"], "melt"),
-    (["why", "current.acl", "c", "a/#"], '"a/#" is no topic name'),
-    (["reach", "current.acl", "c", "a/#/b"], '"a/#/b" is no topic filter'),
-    (["reach", "current.acl", "c", "$share/g"], '"$share/g" is no topic filter'),
+    (["why", "current.acl", "c", "a/#"], '"a/#" is not a topic name'),
+    (["reach", "current.acl", "c", "a/#/b"], '"a/#/b" is not a topic filter'),
+    (["reach", "current.acl", "c", "$share/g"], '"$share/g" is not a topic filter'),
     (["reach", "current.acl", "c" * 301, "mill/energy/#"],
      "a client id, a user name or a level of more than 300 bytes"),
     (["reach", "current.acl", "c", "mill/energy/" + "b" * 301],
@@ -323,28 +323,29 @@ def faults_of_odd_scripts(folder):
     pathlib.Path(folder, "a.acl").write_text(
         "topic read a\ntopic read b/" + "c" * 300 + "\ntopic read d/+\n")
     cases = [
-        (ODD_SCRIPT, 0, "0 of 3 subscriptions in vain\n", ""),
-        ('{"do":"stat"}', 0, "0 of 0 subscriptions in vain\n", ""),
+        (ODD_SCRIPT, 0, "0 of 3 subscriptions can receive nothing\n", ""),
+        ('{"do":"stat"}', 0, "0 of 0 subscriptions can receive nothing\n", ""),
         ("", 2, "", "mqroute-acl: s.jsonl: no line of 0 is a command\n"),
         ("\n\n \n", 2, "", "mqroute-acl: s.jsonl: no line of 3 is a command\n"),
         ("topic read a\n\n# b\nuser c", 2, "", "mqroute-acl: s.jsonl: no line of 4 is a command\n"),
         ('{"do":"connect","client":"c","user":"\u00fc"}\n'
          '{"do":"subscribe","client":"c","filter":"b"}', 1,
-         "s.jsonl:2  c  user \u00fc  b\n1 of 1 subscriptions in vain\n", ""),
+         "s.jsonl:2  c  user \u00fc  b\n1 of 1 subscriptions can receive nothing\n", ""),
         ('\nx\n{"do":"connect","client":"c"}\n' + " " * 1_048_577
          + '\n{"do":"subscribe","client":"c","filter":"b"}', 1,
-         "s.jsonl:5  c  no user name  b\n2 lines are no commands, the first is s.jsonl:2\n"
-         "1 of 1 subscriptions in vain\n", ""),
+         "s.jsonl:5  c  no user name  b\n2 invalid lines skipped, the first is s.jsonl:2\n"
+         "1 of 1 subscriptions can receive nothing\n", ""),
         (" " * 1_048_576
          + '\n{"do":"connect","client":"c"}\n{"do":"subscribe","client":"c","filter":"a"}\nx', 0,
-         "s.jsonl:4 is no command\n0 of 1 subscriptions in vain\n", ""),
+         "1 invalid line skipped: s.jsonl:4\n0 of 1 subscriptions can receive nothing\n", ""),
         ('{"do":"connect","client":"c"}\n{"do":"subscribe","client":"c","filter":"d/' + "b" * 301
          + '"}', 2, "",
          "s.jsonl:2: a client id, a user name or a level of more than 300 bytes\n"),
         # of what no line can grant it is known all the same
         ('{"do":"connect","client":"c"}\n{"do":"subscribe","client":"c","filter":"' + "b" * 301
          + '"}', 1,
-         "s.jsonl:2  c  no user name  " + "b" * 301 + "\n1 of 1 subscriptions in vain\n", ""),
+         f"s.jsonl:2  c  no user name  {'b' * 301}\n"
+         "1 of 1 subscriptions can receive nothing\n", ""),
     ]
     for script, status, told, failed in cases:
         pathlib.Path(folder, "s.jsonl").write_text(script, encoding="utf-8")

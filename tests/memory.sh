@@ -101,15 +101,15 @@ written=$(wc -c < "$work/out")
 say $? "$clients clients in $room KiB: what is written should be whole lines from the front of the answers: \
 $(tail -n 1 "$work/out")"
 
-# Of a script whose subscriptions are asked about, none is kept but those in vain, and here none is.
+# Of a script whose subscriptions are asked about, none is kept but those that can receive nothing, and here none is.
 subscribes=300000
 echo "topic read t/#" > "$work/list"
 { echo '{"do":"connect","client":"c"}'; seq -f '{"do":"subscribe","client":"c","filter":"t/%.0f/#"}' "$subscribes"; } \
     > "$work/script"
 told=$( (ulimit -v "$room" && exec "$acl" reach "$work/list" --script "$work/script") 2>&1)
 status=$?
-[ "$status" = 0 ] && [ "$told" = "0 of $subscribes subscriptions in vain" ]
-say $? "reach on $subscribes subscribes in $room KiB: wanted status 0 and none in vain, got status $status: $told"
+[ "$status" = 0 ] && [ "$told" = "0 of $subscribes subscriptions can receive nothing" ]
+say $? "reach on $subscribes subscribes in $room KiB: wanted status 0 and no such subscription, got status $status: $told"
 
 # Lists of a hundred users with fifty lines each, one with a line more.
 for user in $(seq 100); do

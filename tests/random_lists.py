@@ -308,8 +308,8 @@ def faults_of_script(rules, folder, chance, text):
             yield f"reach --script: status {done.returncode}: {done.stdout}{done.stderr}\n{script}"
         return
     *told, counts = [json.loads(line) for line in done.stdout.splitlines()] or [None]
-    wanted = {"in_vain": len(vain), "subscriptions": len(subscriptions), "no_commands": len(faulty),
-              "first_no_command": faulty[0] if faulty else None}
+    wanted = {"receive_nothing": len(vain), "subscriptions": len(subscriptions),
+              "invalid_lines": len(faulty), "first_invalid_line": faulty[0] if faulty else None}
     if done.returncode != (1 if vain else 0) or counts != wanted:
         yield f"reach --script: status {done.returncode}, {counts}, not {wanted}\n{script}"
     if not rules.words:

@@ -8,7 +8,7 @@ import tempfile
 import unittest
 from pathlib import Path
 
-from worked import HERE, answers, no_commands, scripts, wants_program
+from worked import HERE, answers, invalid_lines, scripts, wants_program
 from mqroute_tools.script.commands import COMMANDS, faults, line_faults
 
 SAID = [
@@ -114,7 +114,7 @@ class Said(unittest.TestCase):
 @wants_program
 class Agrees(unittest.TestCase):
     def agrees(self, name: str, script: bytes) -> int:
-        refused = no_commands(answers(script))
+        refused = invalid_lines(answers(script))
         found = {number for number, _ in faults(line + b"\n" for line in script.split(b"\n"))}
         lines = script.split(b"\n")
         for number in sorted(found ^ refused):

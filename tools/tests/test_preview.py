@@ -340,8 +340,8 @@ class Files(Case):
 
     def test_faults(self):
         self.write("wrong.acl", CURRENT + "topic rw x\n")
-        self.refused('wrong.acl:9: "rw" is no access: ', "old.acl", "wrong.acl", "script")
-        self.refused('-:9: "rw" is no access: ', "old.acl", "-", "script",
+        self.refused('wrong.acl:9: unknown access "rw": ', "old.acl", "wrong.acl", "script")
+        self.refused('-:9: unknown access "rw": ', "old.acl", "-", "script",
                      input=CURRENT + "topic rw x\n")
         self.refused("preview: old.acl: no line is read as mosquitto's: looks like an access list",
                      *self.LISTS, "old.acl")

@@ -4,7 +4,7 @@ import json
 import unittest
 from typing import Any
 
-from worked import TOP, answers, no_commands, scripts, wants_program
+from worked import TOP, answers, invalid_lines, scripts, wants_program
 from mqroute_tools.script.commands import COMMANDS, Field, is_blank
 from mqroute_tools.script.strict_json import NoJson, read
 
@@ -71,7 +71,7 @@ class Schemas(unittest.TestCase):
         commands = faulty = told = 0
         for name, script in scripts():
             found = answers(script)
-            refused = no_commands(found)
+            refused = invalid_lines(found)
             for number, line in enumerate(script.split(b"\n"), 1):
                 if not is_blank(line) or number in refused:
                     self.assertEqual(

@@ -31,6 +31,6 @@ def answers(script: bytes) -> list[dict]:
     return [json.loads(line) for line in done.stdout.decode("utf-8").splitlines()]
 
 
-def no_commands(found: list[dict]) -> set[int]:
+def invalid_lines(found: list[dict]) -> set[int]:
     """The lines that the program refuses as no commands."""
     return {answer["line"] for answer in found if answer.get("code") in LINE_FAULTS}

@@ -44,14 +44,14 @@ pub enum Failure<'a> {
         line: u64,
     },
     /// By mosquitto's rules a question that isn't answered of a `pattern` line with a mark that is a part of a level.
-    #[error("{file}:{line}: %c or %u is a part of a level: by mosquitto's rules it is only answered where it is a whole one")]
+    #[error("{file}:{line}: %c and %u must be whole levels in a question by mosquitto's rules")]
     Mark {
         file: &'a str,
         line: u64,
     },
     /// By mosquitto's rules: with the client's texts in the place of its marks a `pattern` line has a level of over 300
     /// bytes, or is no topic filter.
-    #[error("mqroute-acl: with the client's texts for %c and %u a pattern line has a level of more than 300 bytes or is no topic filter")]
+    #[error("mqroute-acl: with the client's texts for %c and %u a pattern line has a level of more than 300 bytes or is not a topic filter")]
     LongPattern,
     /// The client id, the user name or a level of the filter has over 300 bytes.
     #[error("mqroute-acl: a client id, a user name or a level of more than 300 bytes")]
@@ -64,7 +64,7 @@ pub enum Failure<'a> {
         others: u64,
     },
     /// By mosquitto's rules a filter with a mark that is a part of a level.
-    #[error("mqroute-acl: {0:?}: %c or %u is a part of a level: by mosquitto's rules it is only answered where it is a whole one")]
+    #[error("mqroute-acl: {0:?}: %c and %u must be whole levels in a question by mosquitto's rules")]
     FilterMark(&'a str),
     /// The steps don't suffice: so many rows have to be seen together with the filter.
     #[error("mqroute-acl: {file}: gave up: the filter and {others} line{s} overlap in too many ways", s = plural(*.others))]
@@ -109,10 +109,10 @@ pub enum Failure<'a> {
     #[error("mqroute-acl: {0}: {1}")]
     Unwritten(&'a str, io::Error),
     /// What is to be a topic is no topic name.
-    #[error("mqroute-acl: {0:?} is no topic name")]
+    #[error("mqroute-acl: {0:?} is not a topic name")]
     Topic(&'a str),
     /// What is to be a filter is no topic filter.
-    #[error("mqroute-acl: {0:?} is no topic filter")]
+    #[error("mqroute-acl: {0:?} is not a topic filter")]
     Filter(&'a str),
     /// The script has more than 4,294,967,296 bytes.
     #[error("mqroute-acl: {0}: more than 4,294,967,296 bytes")]

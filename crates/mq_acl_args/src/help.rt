@@ -1,27 +1,27 @@
 //! The texts of help.
 
 pub(crate) const ABOUT: &str =
-    "Answers questions to mosquitto's access lists, for all clients and topics";
+    "Answers questions about mosquitto's access lists, for all clients and topics";
 
 pub(crate) const AFTER_HELP: &str = "\
-An access list is a file in the form of mosquitto.conf(5)'s acl_file. What is
-answered holds for every client id that a broker can have, every user name that
-it can have or none, and every topic. It is by rules of our own; without --rules
-it is noted on standard error where mosquitto 2.0 decides otherwise. With --rules
-mosquitto it is by those of mosquitto 2.0, where compare and lint leave out ids
-and user names with /, + or # if a list has pattern lines, who, test and reach
---any leave them out always, and they say so on standard error. A file - is
+An access list is a file in the form of mosquitto.conf(5)'s acl_file. An answer
+holds for every client id that a broker can have, every user name that it can
+have or none, and every topic. It is by rules of our own; without --rules a note
+on standard error says where mosquitto 2.0 decides otherwise. With --rules
+mosquitto it is by those of mosquitto 2.0. Then compare and lint leave out ids
+and user names with /, + or # if a list has pattern lines; who, test and reach
+--any always leave them out. A note on standard error says so. A file - is
 standard input.
 
 Exit status:
-  0  both lists allow the same, or nothing of the way of --only differs, no line
-     is remarked on other than lines that deny nothing, each subscription can be
-     sent a topic, nobody may but those of --only, the client may what --may
-     says, each line of EXPECTED holds, or why without --may, or who without
-     --only, was answered
-  1  the lists differ, a line is remarked on, a subscription is in vain, somebody
-     may other than those of --only, the client may not what --may says, or a
-     line of EXPECTED doesn't hold
+  0  compare: both lists allow the same, or differ only in the other way than
+     --only says. lint: no remark, or only on lines that deny nothing. reach:
+     each subscription can receive something. who: answered, or with --only
+     nobody else may. why: answered, or with --may the client may. test: each
+     line of EXPECTED holds
+  1  the lists differ, lint has a remark, a subscription can receive nothing,
+     somebody other than those of --only may, the client may not, or a line of
+     EXPECTED doesn't hold
   2  the arguments aren't understood, an access list can't be opened, read or
      understood, EXPECTED can't be opened or read, a script can't be opened or
      read or has no command, or the steps don't suffice
@@ -64,18 +64,18 @@ decides it. All are listed: for the clients without a user name, for those of
 each user name that has lines of its own, and for all others, each pair of
 lines that decides. In a topic <level> is any level that no line names and that
 doesn't begin with $, and <$level> any that does. <client id> and <user> are any
-that no line names, at the front of a topic such as don't begin with $.
+that no line names; at the front of a topic they don't begin with $.
 
-With --only gained those alone are shown that the new list allows and the old
-one doesn't, with --only lost the others, and the status is of these.
+--only gained shows what the new list allows and the old one doesn't, --only lost
+the opposite, and the status is of these alone.
 
-With --script SCRIPT it is counted how many publishes of the script a difference
-is about at most: those to topics that the filters of its lines match, where %c
-and %u match any level. Who publishes and who subscribes is not looked at.
+--script SCRIPT counts how many publishes of the script a difference is about at
+most: those to topics that the filters of its lines match, where %c and %u match
+any level. Who publishes and who subscribes doesn't count.
 
-Long lists that overlap in many ways can take long. A step is a line that is
-looked at for one question, or as much work as that takes. When the steps are
-spent nothing is answered.
+Long lists that overlap in many ways can take long. A step is a look at one line
+for one question, or as much work as that takes. When the steps are spent, there
+is no answer.
 
 With --json each difference is an object with
   access    read or write
@@ -83,7 +83,8 @@ With --json each difference is an object with
   client    the client id
   user      its user name, or null
   topic     the topic
-  made_up   which of these, and of the levels of the topic, stand for others
+  placeholders
+            which of these, and of the levels of the topic, stand for others
   old, new  the line that decides it, with file, line and text; or null, where
             no line allows it
 With --json and --script it has too
@@ -94,7 +95,7 @@ pub(crate) const WHY_ABOUT: &str =
     "Shows whether a client may read and write a topic, and by which line";
 
 pub(crate) const WHY_AFTER_HELP: &str = "\
-Both are shown; --may read or --may write makes the status that of one of them.
+Both are shown. With --may read or --may write the status is that of one of them.
 
 With --json one object is about reading and one about writing, each with
   access   read or write
@@ -102,16 +103,16 @@ With --json one object is about reading and one about writing, each with
   deny     the first line that denies it, with file, line and text; or null
   grant    the first line that grants it, or null";
 
-pub(crate) const LINT_ABOUT: &str = "Lists lines that have a fault, are odd or are needless";
+pub(crate) const LINT_ABOUT: &str = "Lists lines that are faulty, odd or without effect";
 
 pub(crate) const LINT_AFTER_HELP: &str = "\
 The remarks on each file stand in the order of the files, each with the text of
-its line. Where one of them can't be read, nothing is written. A needless line
-is one without which the list allows the same. A line that denies nothing that
-a line grants may be there to guard: alone, such lines don't make the status 1.
+its line. If one of them can't be read, nothing is written. A needless line is
+one without which the list allows the same. A line that denies nothing that a
+line grants may be there as a guard: alone, such lines don't make the status 1.
 
-A step is a line that is looked at for one question, or as much work as that
-takes. When the steps are spent nothing is answered. Each file has as many.
+A step is a look at one line for one question, or as much work as that takes.
+When the steps are spent, there is no answer. Each file has as many.
 
 With --json each remark is an object with
   file, line, text  the line
@@ -131,83 +132,83 @@ pub(crate) const SCRIPT_HELP: &str =
     "Ask about all subscriptions of this script, or of standard input (-)";
 
 pub(crate) const REACH_ABOUT: &str =
-    "Shows whether a subscription, or each of a script, is in vain";
+    "Shows whether a subscription, or which of a script, can receive nothing";
 
 pub(crate) const REACH_AFTER_HELP: &str = "\
-A client is sent what its filter matches and the list lets it read. A topic
-that a subscription to FILTER can be sent is shown, or that there is none.
+A client receives what its filter matches and the list lets it read. Shown is a
+topic that a subscription to FILTER can receive, or that there is none.
 
-With --any FILTER, in place of CLIENT and FILTER, it is asked of all client ids
-at once: that nothing can be sent holds for each. A user that no line of the
-list is for is refused there. A step is a line that is looked at for one
-question, or as much work as that takes. When the steps are spent nothing is
-answered.
+With --any FILTER, in place of CLIENT and FILTER, the answer is about all client
+ids at once: if it is nothing, none of them receives anything. A user that no line
+of the list is for is refused. A step is a look at one line for one question, or
+as much work as that takes. When the steps are spent, there is no answer.
 
-With --script SCRIPT, in place of CLIENT and FILTER, those subscriptions of the
-script are listed that can be sent nothing: line, client, user name and filter.
-The user name is that of the client as it subscribes; each other that its
-session has while it keeps the subscription is looked at too. A subscribe that a
-broker refuses is none. Lines acl of the script say nothing here. Lines that are
-no commands are passed over, and shown; a script without a command is refused.
+--script SCRIPT, in place of CLIENT and FILTER, lists those subscriptions of the
+script that can receive nothing: line, client, user name and filter. The user
+name is that of the client as it subscribes; each other that its session has
+while it keeps the subscription counts too. A subscribe that a broker refuses
+doesn't count. acl lines of the script are ignored. Invalid lines are skipped and
+counted; a script without a command is refused.
 
 With --json the answer is an object with
   filter  the subscription
   topic   a topic that it can be sent, or null
 With --json and --any it has too
-  client   a client id that can be sent it, or null
-  line     the line that allows it, with file, line and text, or null
-  made_up  which of client and the levels of the topic stand for others
-  user     the user name, or null
-With --json and --script each subscription in vain is an object with
+  client        a client id that can be sent it, or null
+  line          the line that allows it, with file, line and text, or null
+  placeholders  which of client and the levels of the topic stand for others
+  user          the user name, or null
+With --json and --script each subscription that can receive nothing is an object
+with
   file, line  the script, and the line of its subscribe
   client      the client id
   user        its user name as it subscribes, or null
   filter      the subscription
 and the last object has
-  in_vain           how many they are
-  subscriptions     how many subscriptions the script has
-  no_commands       how many of its lines are no commands
-  first_no_command  the number of the first of these lines, or null";
+  receive_nothing     how many they are
+  subscriptions       how many subscriptions the script has
+  invalid_lines       how many of its lines are not commands
+  first_invalid_line  the number of the first of these lines, or null";
 
 pub(crate) const WANTED_HELP: &str =
     "The topic filter; %c and %u as its levels are the client's own id and user name";
 
-pub(crate) const ACCESS_HELP: &str = "Tell of reading or of writing alone: read or write (both)";
+pub(crate) const ACCESS_HELP: &str = "Show reading or writing alone: read or write (both)";
 
 pub(crate) const MAY_HELP: &str =
     "The status is 0 where the client may, and 1 where it may not: read or write";
 
-pub(crate) const WAY_HELP: &str = "Tell of differences of this way alone: gained or lost";
+pub(crate) const WAY_HELP: &str = "Show differences of this way alone: gained or lost";
 
 pub(crate) const ONLY_HELP: &str =
-    "Tell of others than these users, between commas: - no user name, * users without lines";
+    "Leave out these users, between commas: - no user name, * users without lines";
 
 pub(crate) const WHO_ABOUT: &str = "Shows who may read and write the topics that a filter matches";
 
 pub(crate) const WHO_AFTER_HELP: &str = "\
-It is told of the clients without a user name, of those of each user name that
-has lines of its own, and of all others: that they may every topic that the
+There is an answer for the clients without a user name, for those of each user
+name that has lines of its own, and for all others: they may every topic that the
 filter matches; or, for each line that decides, a topic that they may, and what
-deny lines take away. Of those that may nothing nothing is told.
+deny lines take away. Those that may nothing are not listed.
 
-With --only those users are left out, and the status is 1 where anybody else
-may.
+--only leaves out those users, and the status is 1 if anybody else may.
 
-With --script SCRIPT it is counted how many publishes of the script each is about
-at most: those to topics that FILTER and the filter of the line match, where %c
-and %u match any level. Who publishes and who subscribes is not looked at.
+--script SCRIPT counts how many publishes of the script each answer is about at
+most: those to topics that FILTER and the filter of the line match, where %c and
+%u match any level. Who publishes and who subscribes doesn't count.
 
-A step is a line that is looked at for one question, or as much work as that
-takes. When the steps are spent nothing is answered.
+A step is a look at one line for one question, or as much work as that takes.
+When the steps are spent, there is no answer.
 
 With --json each is an object with
   access   read or write
   client   the client id
   every    whether these clients may every topic that the filter matches
   line     the line that allows it, with file, line and text
-  made_up  which of client, user and the levels of the topic stand for others
   not      what these clients may not, each an object with client, line, topic
            and user; line is null where no line allows it
+  placeholders
+           which of client, user and the levels of the topic stand for others
   topic    the topic
   user     its user name, or null
 With --json and --script each has too
@@ -241,13 +242,12 @@ Lines that don't hold are shown, each with a client and a topic for which it
 doesn't and the line of the list that decides there; then how many hold. A line
 with a fault doesn't hold, nor does one about a user without lines.
 
-Where LISTs are given, the whole is tested of each, and acl lines are passed
-over. Files that EXPECTED names are found from the folder that the program runs
-in, and - is none of them.
+With LISTs, the whole is tested of each, and acl lines are skipped. Files that
+EXPECTED names are found from the folder that the program runs in, and - is none
+of them.
 
-A step is a line that is looked at for one question, or as much work as that
-takes. When the steps are spent nothing is answered. Each line of EXPECTED has
-as many.
+A step is a look at one line for one question, or as much work as that takes.
+When the steps are spent, there is no answer. Each line of EXPECTED has as many.
 
 With --json each line of EXPECTED that says something is an object with
   file, line, text  the line
@@ -256,9 +256,9 @@ With --json each line of EXPECTED that says something is an object with
   kind              holds, fails, differs, none may, unnamed, unasked, fault,
                     long level, part of a level or no list
   words             why it doesn't hold, or null
-  access, client, user, topic, made_up
+  access, client, user, topic, placeholders
                     the client and the topic for which it doesn't, as compare
-                    has them; or null, and no made_up
+                    has them; or null, and no placeholders
   decided, other    the line that decides there in the list, and in the one
                     that it is compared with, with file, line and text; or null
 and the last object has

@@ -42,7 +42,7 @@ fn add_json<'a>(
             ("client", Datum::TextIf(client)),
             ("filter", Datum::Text(wanted)),
             ("line", Datum::LineIf(line)),
-            ("made_up", Datum::Texts(made_up)),
+            ("placeholders", Datum::Texts(made_up)),
             ("topic", Datum::TextIf(topic)),
             ("user", Datum::TextIf(user)),
         ],

@@ -262,9 +262,9 @@ fn add_json<'a>(
         ("access", Datum::Text(access)),
         ("change", Datum::Text(change)),
         ("client", Datum::Text(difference.client.as_str())),
-        ("made_up", Datum::Texts(&difference.made_up)),
         ("new", Datum::LineIf(new_line)),
         ("old", Datum::LineIf(old_line)),
+        ("placeholders", Datum::Texts(&difference.made_up)),
         ("topic", Datum::Text(difference.topic.text())),
         ("user", Datum::TextIf(difference.class.user())),
     ]?;

@@ -30,8 +30,8 @@ fn topic_in(rules: Rules, line: &str) -> &str {
     }
 }
 
-fn no_such(alloc: Global, word: &str, what: &str) -> Result<String, AllocError> {
-    format!(in alloc; "{word:?} is no {what}")
+fn unknown(alloc: Global, what: &str, word: &str, expected: &str) -> Result<String, AllocError> {
+    format!(in alloc; "unknown {what} {word:?}: expected {expected}")
 }
 
 /// What is wrong with this line by these rules.
@@ -44,17 +44,20 @@ pub fn fault_words(
     let line = trimmed(rules, line);
     let (keyword, rest) = split_word(rules, line);
     match kind {
-        AclKind::Keyword => no_such(alloc, keyword, "keyword: topic, pattern or user"),
+        AclKind::Keyword => unknown(alloc, "keyword", keyword, "topic, pattern or user"),
         AclKind::Access => {
             let (access, _) = split_word(rules, rest);
-            no_such(alloc, access, "access: read, write, readwrite or deny")
+            unknown(alloc, "access", access, "read, write, readwrite or deny")
         }
         AclKind::Topic if rest.is_empty() => String::from_str(alloc, "the topic is missing"),
-        AclKind::Topic => no_such(alloc, topic_in(rules, line), "topic filter"),
+        AclKind::Topic => {
+            let topic = topic_in(rules, line);
+            format!(in alloc; "{topic:?} is not a topic filter")
+        }
         AclKind::User => String::from_str(alloc, "the user name is missing"),
         AclKind::Pattern => {
             let topic = topic_in(rules, line);
-            format!(in alloc; "%c or %u is no whole level of {topic:?}")
+            format!(in alloc; "%c and %u must be whole levels: {topic:?}")
         }
         AclKind::Memory => String::from_str(alloc, "out of memory"),
     }

@@ -93,8 +93,8 @@ fn permission_data<'d>(
         ("client", Datum::Text(granted.client.as_str())),
         ("every", Datum::Flag(exceptions.is_empty())),
         ("line", Datum::LineIf(line_if(list, granted.old_reason))),
-        ("made_up", Datum::Texts(&granted.made_up)),
         ("not", Datum::Exceptions(exceptions)),
+        ("placeholders", Datum::Texts(&granted.made_up)),
         ("topic", Datum::Text(granted.topic.text())),
         ("user", Datum::TextIf(granted.class.user())),
     ]?)

@@ -1,4 +1,4 @@
-//! The subscriptions of a script that are in vain, in words and as JSON.
+//! The subscriptions of a script that can receive nothing, in words and as JSON.
 use crate::json::{Datum, add_object};
 use crate::table::{add_cell, widened};
 use mq_reach::{Counts, Findings, Subscription};
@@ -75,10 +75,10 @@ fn add_faulty(text: &mut String, script: &str, counts: Counts) -> Result<(), All
     let faulty = counts.faulty;
     match counts.first_faulty {
         None => Ok(()),
-        Some(first) if faulty == 1 => writeln!(text, "{script}:{first} is no command"),
+        Some(first) if faulty == 1 => writeln!(text, "1 invalid line skipped: {script}:{first}"),
         Some(first) => writeln!(
             text,
-            "{faulty} lines are no commands, the first is {script}:{first}"
+            "{faulty} invalid lines skipped, the first is {script}:{first}"
         ),
     }
 }
@@ -96,7 +96,7 @@ fn table(alloc: Global, script: &str, findings: &Findings) -> Result<String, All
     add_faulty(&mut text, script, findings.counts)?;
     let vain = findings.vain.len();
     let all = findings.counts.subscriptions;
-    writeln!(text, "{vain} of {all} subscriptions in vain")?;
+    writeln!(text, "{vain} of {all} subscriptions can receive nothing")?;
     Ok(text)
 }
 
@@ -133,9 +133,9 @@ fn add_counts(
         alloc,
         text,
         &[
-            ("first_no_command", Datum::NumberIf(counts.first_faulty)),
-            ("in_vain", Datum::Number(vain as u64)),
-            ("no_commands", Datum::Number(counts.faulty)),
+            ("first_invalid_line", Datum::NumberIf(counts.first_faulty)),
+            ("invalid_lines", Datum::Number(counts.faulty)),
+            ("receive_nothing", Datum::Number(vain as u64)),
             ("subscriptions", Datum::Number(counts.subscriptions)),
         ],
     )
@@ -150,8 +150,8 @@ fn json_lines(alloc: Global, script: &str, findings: &Findings) -> Result<String
     Ok(text)
 }
 
-/// The subscriptions in vain of the script with this name, one a line, then the lines that are no
-/// commands, and the number of all subscriptions.
+/// The subscriptions that can receive nothing of the script with this name, one a line, then the
+/// lines that are not commands, and the number of all subscriptions.
 pub fn subscriptions_text(
     alloc: Global,
     script: &str,

@@ -23,7 +23,7 @@ fn fault_words(kind: ExpectationKind) -> &'static str {
         ExpectationKind::Access => "what they may is missing: read, write or readwrite",
         ExpectationKind::Filter =>
             "the filter is missing, no topic filter, or a shared subscription",
-        ExpectationKind::Pattern => "%c or %u is no whole level of the filter",
+        ExpectationKind::Pattern => "%c and %u must be whole levels of the filter",
         ExpectationKind::Except => {
             "behind the filter stands only except NAME, NAME .., and that of anyone"
         }

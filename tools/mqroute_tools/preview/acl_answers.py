@@ -1,4 +1,5 @@
-"""What mqroute-acl answers about both lists: rights, subscriptions in vain, remarks."""
+"""What mqroute-acl answers about both lists: rights, remarks, and subscriptions that can receive
+nothing."""
 import json
 from collections import Counter
 from collections.abc import Iterator
@@ -47,19 +48,19 @@ class Lists:
             old, new = self.current.line(row["old"]), self.proposed.line(row["new"])
             key = row["change"], row["access"], row["topic"], number(old), number(new)
             right = known.setdefault(key, Right(*key[:3], Deciding(old, new), []))
-            right.clients.append(Client(row["user"], row["client"], row["made_up"]))
+            right.clients.append(Client(row["user"], row["client"], row["placeholders"]))
         return list(known.values()), notes
 
-    def newly_in_vain(self, script: str) -> list[Subscription]:
+    def newly_receiving_nothing(self, script: str) -> list[Subscription]:
         """Those that can receive something under the current list, and nothing under the proposed
         one: once for each client, user name and filter."""
-        before = {one.line for one in self.in_vain(self.current, script)}
+        before = {one.line for one in self.receiving_nothing(self.current, script)}
         found = {(one.client, one.user, one.filter): one
-                 for one in reversed(self.in_vain(self.proposed, script))
+                 for one in reversed(self.receiving_nothing(self.proposed, script))
                  if one.line not in before}
         return sorted(found.values(), key=lambda one: (one.client, one.filter, one.line))
 
-    def in_vain(self, one: AccessList, script: str) -> list[Subscription]:
+    def receiving_nothing(self, one: AccessList, script: str) -> list[Subscription]:
         rows, _ = self.asked("reach", [f"--script={script}", "--", one.path])
         return [Subscription(row["line"], row["client"], row["user"], row["filter"])
                 for row in rows if "filter" in row]

@@ -74,14 +74,14 @@ class RefusedRow:
 
 @dataclass
 class Client:
-    """Of whom a right is: `made_up` are those of the client id, the user name and the levels of
-    the topic that stand for any other."""
+    """Of whom a right is: `placeholders` are those of the client id, the user name and the levels
+    of the topic that stand for any other."""
     user: str | None
     client: str
-    made_up: list[str]
+    placeholders: list[str]
 
     def is_any_user(self) -> bool:
-        return self.user is not None and self.user in self.made_up
+        return self.user is not None and self.user in self.placeholders
 
 
 @dataclass

@@ -77,7 +77,7 @@ def gathered(options: argparse.Namespace, folder: Path, steps: Steps) -> Preview
     script = script_of(options, sources, folder, steps.clear)
     lists.names[script.path] = script.name
     steps.next()
-    answers.subscriptions = lists.newly_in_vain(script.path)
+    answers.subscriptions = lists.newly_receiving_nothing(script.path)
     outputs = []
     for name, one in ((BEFORE, lists.current), (AFTER, lists.proposed)):
         steps.next()

@@ -25,7 +25,7 @@ def verdict(found: Preview) -> list[Sentence]:
     others = [row for row in losing if row.after > 0]
     gaining = [row for row in found.gaining() if not row.lost]
     return [*silenced(silent), *losers(others), *gainers(gaining), *refused(found),
-            *rights(found), *in_vain(found), *otherwise(found)]
+            *rights(found), *receiving_nothing(found), *otherwise(found)]
 
 
 def silenced(rows: list[UserRow]) -> list[Sentence]:
@@ -88,7 +88,7 @@ def rights(found: Preview) -> list[Sentence]:
     return [Sentence("", counted(taken, "rights would be taken away.", ","), True)] if taken else []
 
 
-def in_vain(found: Preview) -> list[Sentence]:
+def receiving_nothing(found: Preview) -> list[Sentence]:
     number = len(found.subscriptions)
     words = counted(number, "subscriptions would get nothing any more.", ",")
     return [Sentence("", words, True)] if number else []

@@ -114,7 +114,7 @@ def kind_of(client: Client, level: str) -> str:
 
 
 def level_shown(client: Client, place: int, level: str) -> str:
-    if level not in client.made_up:
+    if level not in client.placeholders:
         return level
     kind = kind_of(client, level)
     hidden = level.startswith("$") and (place == 0 or kind == "level")
@@ -131,4 +131,4 @@ def topic_of(right: Right) -> str:
 def client_of(right: Right) -> str:
     """The client id, where it stands for itself alone."""
     first = right.clients[0]
-    return "" if first.client in first.made_up else f'client id: "{shown(first.client)}"'
+    return "" if first.client in first.placeholders else f'client id: "{shown(first.client)}"'

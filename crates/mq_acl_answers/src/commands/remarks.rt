@@ -5,14 +5,14 @@ use mq_acl_print::{Datum, Lines, ListText, add_object, fault_words, lines_of};
 use mq_lint::{Remark, RemarkKind};
 use std::alloc::{AllocError, Global};
 
-const NO_MARK: &str = "a pattern line without %c and %u is for all clients alike";
+const NO_MARK: &str = "a pattern line without %c and %u applies to every client";
 
-const NO_MARK_MOSQUITTO: &str = "a pattern line without %c and %u is for all clients alike, \
-                                 but for what their own topic lines decide";
+const NO_MARK_MOSQUITTO: &str = "a pattern line without %c and %u applies to every client, \
+                                 but for what its own topic lines decide";
 
-const INDENTED: &str = "mosquitto 2.0 takes # for a comment in the first column alone";
+const INDENTED: &str = "mosquitto 2.0 takes # for a comment in the first column only";
 
-const TAB: &str = "mosquitto 2.0 parts words at spaces alone, not at tabs";
+const TAB: &str = "mosquitto 2.0 separates words by spaces only, not by tabs";
 
 const DENIES_NOTHING: &str = "denies nothing that a line grants";
 
