@@ -44,6 +44,15 @@ class Subcommand(Protocol):
         """Gives the exit status. Raises UsageFault where the arguments don't go together."""
 
 
+def parsed(parser: "ArgumentParser") -> "Namespace":
+    """The arguments of the process. Options may stand between them, but where each subcommand has
+    its own."""
+    try:
+        return parser.parse_intermixed_args()
+    except TypeError:
+        return parser.parse_args()
+
+
 def run(name: str) -> int:
     """Runs a subcommand with the arguments of the process, under the name that stands there."""
     interrupt.handle(interrupt.stop)
@@ -55,7 +64,7 @@ def run(name: str) -> int:
     subcommand.add_arguments(parser)
 
     def work() -> int:
-        options = parser.parse_args()
+        options = parsed(parser)
         try:
             return subcommand.run(options)
         except exit_status.UsageFault as fault:
