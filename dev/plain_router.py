@@ -1,5 +1,5 @@
 #!/usr/bin/env python3
-"""Answers a script as mqroute does, by another reading: docs/reference and docs/DEFINITIONS.md put
+"""Answers a script as mqroute does, by another reading: docs/reference and docs/definitions put
 into Python's lists (plain/).
 
 It has no tree, no index and no queue of turns: each command looks at every row of every list, so it
