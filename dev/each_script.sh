@@ -12,7 +12,7 @@ await() {
 }
 
 # compare_each PORT "REPLAY'S OPTIONS" NAME.jsonl..: what differs from mqroute's output (NAME.out) is compared with NAME.diff,
-# which docs/BROKERS.md tells of. UPDATE=1 writes NAME.diff instead.
+# which docs/explanation/brokers.md lists. UPDATE=1 writes NAME.diff instead.
 compare_each() {
     port=$1 options=$2
     shift 2

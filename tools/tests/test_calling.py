@@ -1,4 +1,5 @@
-"""docs/CALLING.md shows the code of crates/mq_example as it stands, and crates.txt as it is."""
+"""docs/explanation/calling.md shows the code of crates/mq_example and a line of crates.txt as they
+stand."""
 import re
 import unittest
 
@@ -7,7 +8,7 @@ from worked import TOP
 
 class Calling(unittest.TestCase):
     def test_blocks(self):
-        text = (TOP / "docs/CALLING.md").read_text("utf-8")
+        text = (TOP / "docs/explanation/calling.md").read_text("utf-8")
         code = "".join(file.read_text("utf-8")
                        for file in sorted((TOP / "crates/mq_example/src").glob("*.rt")))
         blocks = re.findall(r"```rust\n(.*?)```", text, re.S)

@@ -98,10 +98,10 @@ class Scripts(unittest.TestCase):
             with self.subTest(script.stem):
                 self.assertEqual(done.stdout, script.with_suffix(".out").read_bytes())
 
-    def test_each_is_told_of(self):
-        """docs/BROKERS.md names each script in its broker's section, and stands the ones
-        that differ in its table."""
-        sections = (TOP / "docs/BROKERS.md").read_text(encoding="utf-8").split("\n## ")
+    def test_each_is_named(self):
+        """docs/explanation/brokers.md names each script in its broker's section, and those that
+        differ in its table."""
+        sections = (TOP / "docs/explanation/brokers.md").read_text(encoding="utf-8").split("\n## ")
         by_broker = {section.split(" ")[0].lower(): section for section in sections}
         agreement = next(
             section for section in sections if section.startswith("Where mosquitto agrees"))
