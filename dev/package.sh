@@ -23,7 +23,7 @@ make --no-print-directory -s install DESTDIR="$root" PREFIX=/usr PYTHON=
 # The README's sessions begin in a copy of this folder, as in a clone.
 install -d "$doc/docs" "$doc/brokers/recorded"
 cp -r README.md examples "$doc"
-cp -r docs/definitions docs/explanation docs/reference docs/preview.png "$doc/docs"
+cp -r docs/adr docs/definitions docs/explanation docs/reference docs/preview.png "$doc/docs"
 cp brokers/recorded/plain.log brokers/recorded/plain.acl brokers/recorded/proposed.acl "$doc/brokers/recorded"
 find "$doc" -name __pycache__ -prune -exec rm -rf {} +
 
