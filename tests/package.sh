@@ -1,6 +1,7 @@
 #!/usr/bin/env bash
 # Makes the package, and uses it as somebody would who has no toolchain: unpacked into an empty folder, its programs and
-# tools answer the README's sessions. The same commit gives the same bytes.
+# tools answer the README's sessions, and its pages have what they link to below docs and examples. The same commit gives
+# the same bytes.
 set -euo pipefail
 cd "$(dirname "$0")/.."
 if ! command -v dpkg-deb > /dev/null; then
@@ -23,6 +24,7 @@ for file in "$scratch"/first/*; do
 done
 dpkg-deb -x "$scratch"/first/*.deb "$scratch/root"
 tests/readme.py --installed "$scratch/root"
+tests/links.py --installed "$scratch/root"
 mkdir "$scratch/archive"
 tar -C "$scratch/archive" --strip-components=1 -xzf "$scratch"/first/*.tar.gz
 diff -r --no-dereference "$scratch/root/usr" "$scratch/archive"
