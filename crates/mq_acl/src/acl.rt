@@ -27,7 +27,7 @@ pub struct Acl {
     order: Snapshot<Vec<Row>>,
 }
 
-// One step where it is dropped, and not one for each thing inside.
+// Opaque to callers' proofs: one step, and not one for each field (docs/explanation/gate.md).
 impl Drop for Acl {
     fn drop(self) {
         let Acl {
@@ -52,9 +52,10 @@ impl Model for Acl {
 }
 
 impl Acl {
-    /// The access list with this text, read by our own rules, or its first faulty line. A line is empty, a comment (`#`),
-    /// `user NAME`, or `topic` or `pattern` with an access (`read`, `write`, `readwrite`, `deny`; without one, read and
-    /// write) and a topic filter. How lines and words are cut, and which faults there are, is our own.
+    /// The access list with this text, read by our own rules, or its first faulty line. A line is
+    /// empty, a comment (`#`), `user NAME`, or `topic` or `pattern` with an access (`read`,
+    /// `write`, `readwrite`, `deny`; without one, read and write) and a topic filter. How lines and
+    /// words are cut, and which faults there are, is our own.
     pub fn read(alloc: Global, text: &str) -> Result<Acl, AclFault>
         ensures rules { IfOk result (λ acl. acl.rules ≡ Rules.Own) }
         ensures rows { MatchResult result (λ acl. rows_of text.now ≡ Ok acl.rows)
@@ -67,9 +68,9 @@ impl Acl {
         Acl::read_by(alloc, Rules::Own, text)
     }
 
-    /// The access list with this text, read by these rules, or its first faulty line. By those of mosquitto words are
-    /// parted by spaces alone, a comment begins at the first byte of its line, and the marks of a `pattern` line may stand
-    /// within levels.
+    /// The access list with this text, read by these rules, or its first faulty line. By those of
+    /// mosquitto words are parted by spaces alone, a comment begins at the first byte of its line,
+    /// and the marks of a `pattern` line may stand within levels.
     pub fn read_by(alloc: Global, rules: Rules, text: &str) -> Result<Acl, AclFault>
         ensures rules { IfOk result (λ acl. acl.rules ≡ rules) }
         ensures rows { MatchResult result (λ acl. rows_by rules text.now ≡ Ok acl.rows)
@@ -120,9 +121,9 @@ impl Acl {
         }
     }
 
-    /// Whether the client with this client id, and with this user name or none, may read the topic by the list's rules. It
-    /// takes no memory, and looks at the rows for all clients and at those for this user name, or for clients without
-    /// one, alone.
+    /// Whether the client with this client id, and with this user name or none, may read the topic
+    /// by the list's rules. It takes no memory, and looks at the rows for all clients and at those
+    /// for this user name, or for clients without one, alone.
     pub fn may_read(&self, client: &str, user: Option<&str>, name: &TopicName) -> bool
         ensures { result ≡ allowed (Some self.now) client.now (option_copied user.entry) name.now
             Reading }

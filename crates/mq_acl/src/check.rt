@@ -34,7 +34,7 @@ impl LevelTest for RowLevels<'_> {
     }
 }
 
-// A name that begins with `$` wants a filter that does.
+// A name that begins with `$` needs a filter that does.
 fn dollar_fits(filter: &str, name: &str) -> bool
     ensures { result ≡ (not (begins_with_dollar name.now) || begins_with_dollar filter.now) }
 {
@@ -115,7 +115,8 @@ fn judge(
     Some(granted)
 }
 
-// Whether no row that concerns the name denies, and one grants, of the rows for all clients and of those for this user alone.
+// Whether no row that concerns the name denies, and one grants, of the rows for all clients and of
+// those for this user alone.
 pub(crate) fn rows_allow(
     by_owner: &RowsByOwner,
     client: &str,

@@ -9,7 +9,7 @@ pub enum AclKind {
     Topic,
     /// The user name is missing.
     User,
-    /// `%c` or `%u` stands in a `pattern` line and is no whole level.
+    /// `%c` or `%u` stands in a `pattern` line and is not a whole level.
     Pattern,
     /// There was no memory. No line is at fault.
     Memory,

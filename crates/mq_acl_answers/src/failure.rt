@@ -15,7 +15,7 @@ fn plural(count: u64) -> &'static str {
     if count == 1 { "" } else { "s" }
 }
 
-/// Why the program answers nothing, as it is told: behind the line that has the fault, or behind the program's name.
+/// Why the program answers nothing, as it is printed: behind the line that has the fault, or behind the program's name.
 #[derive(Debug, Drop, Error)]
 pub enum Failure<'a> {
     /// The file of a list or of a script can't be opened or read.
@@ -50,7 +50,7 @@ pub enum Failure<'a> {
         line: u64,
     },
     /// By mosquitto's rules: with the client's texts in the place of its marks a `pattern` line has a level of over 300
-    /// bytes, or is no topic filter.
+    /// bytes, or is not a topic filter.
     #[error("mqroute-acl: with the client's texts for %c and %u a pattern line has a level of more than 300 bytes or is not a topic filter")]
     LongPattern,
     /// The client id, the user name or a level of the filter has over 300 bytes.
@@ -72,8 +72,8 @@ pub enum Failure<'a> {
         file: &'a str,
         others: u64,
     },
-    /// The steps don't suffice for this line of a file of expectations: so many rows have to be seen together with one of
-    /// a list.
+    /// The steps don't suffice for this line of a file of expectations: so many rows have to be
+    /// seen together with one of a list.
     #[error("{file}:{line}: gave up: line {row} of {list} and {others} other{s} overlap in too many ways", s = plural(*.others))]
     TestGaveUp {
         file: &'a str,
@@ -90,7 +90,7 @@ pub enum Failure<'a> {
         list: &'a str,
         others: u64,
     },
-    /// As it is told: of a file that a file of expectations names.
+    /// As it is printed: of a file that a file of expectations names.
     #[error("{0}")]
     OfNamed(String),
     /// No line of the list is for the user.
@@ -108,10 +108,10 @@ pub enum Failure<'a> {
     /// The file can't be written.
     #[error("mqroute-acl: {0}: {1}")]
     Unwritten(&'a str, io::Error),
-    /// What is to be a topic is no topic name.
+    /// What is to be a topic is not a topic name.
     #[error("mqroute-acl: {0:?} is not a topic name")]
     Topic(&'a str),
-    /// What is to be a filter is no topic filter.
+    /// What is to be a filter is not a topic filter.
     #[error("mqroute-acl: {0:?} is not a topic filter")]
     Filter(&'a str),
     /// The script has more than 4,294,967,296 bytes.
@@ -165,7 +165,7 @@ impl<'a> Failure<'a> {
         }
     }
 
-    /// The same as it is told, where the names in it don't live as long as those of the command line.
+    /// The same as it is shown, where the names in it don't live as long as those of the command line.
     pub fn of_named(alloc: Global, failure: Failure<'_>) -> Failure<'a>
         ensures { (failure_status result ≡ failure_status failure.entry) ⊎ (result ≡ Failure.Memory) }
     {

@@ -6,7 +6,7 @@ ghost use Rattle.mq_acl_answers.specs.Statuses.{outcome_status, worse};
 pub enum Outcome {
     /// Nothing is to be remarked.
     Clear,
-    /// Lists differ, a line is remarked on, or a subscription is in vain.
+    /// Lists differ, a line is remarked on, or a subscription can receive nothing.
     Remark,
 }
 

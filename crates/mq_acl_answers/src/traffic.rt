@@ -31,8 +31,8 @@ fn unless_no_command<'a>(traffic: Traffic, script: &'a str) -> Result<Traffic, F
     })
 }
 
-/// The publishes of the script that this reader gives, with this name. A script of which no line is a command is a failure:
-/// it is another file than was meant.
+/// The publishes of the script that this reader gives, with this name. A script of which no line is
+/// a command is a failure: it is another file than was meant.
 pub fn find_traffic<'a, R: Read + Drop>(
     alloc: Global,
     script: &'a str,

@@ -151,7 +151,7 @@ const TEST: Subcommand<'static> = Subcommand {
     ],
 };
 
-// The command that wants one of these subcommands.
+// The command that needs one of these subcommands.
 fn wanting_one_of<'a>(
     alloc: Global,
     command: Command<'a>,
@@ -183,7 +183,7 @@ fn matches_in<'a>(alloc: Global, words: &'a [String]) -> Result<ArgMatches<'a>, 
     command.try_get_matches_from(words)
 }
 
-// Tells why what is asked can't be asked.
+// Says why what is asked can't be asked.
 fn usage_of(alloc: Global, text: &str) -> UsageFault
     ensures { (words : List Text) → (kinds : Kinds)
         → CanNotBeAsked (asked_by (subcommand_of mqroute_acl words))
@@ -195,7 +195,7 @@ fn usage_of(alloc: Global, text: &str) -> UsageFault
     }
 }
 
-// Tells why what is asked by these values is nothing: a word is unknown, or there is no question.
+// Says why what is asked by these values is nothing: a word is unknown, or there is no question.
 fn no_question(alloc: Global, matches: &ArgMatches<'_>) -> UsageFault
     ensures { (words : List Text) → (kinds : Kinds)
         → CanNotBeAsked (asked_by (subcommand_of mqroute_acl words))

@@ -49,7 +49,7 @@ pub enum Question<'a> {
     Compare {
         old: &'a str,
         new: &'a str,
-        /// Of which differences alone it is told, if not of all.
+        /// Which differences alone are shown, if not all.
         only: Option<Way>,
         /// The file of a script whose publishes are counted, if one is given.
         script: Option<&'a str>,
@@ -78,7 +78,7 @@ pub enum Question<'a> {
         file: &'a str,
         /// The filter.
         wanted: &'a str,
-        /// Of whom it is told.
+        /// Of whom it is shown.
         selection: Selection<'a>,
         /// The file of a script whose publishes are counted, if one is given.
         script: Option<&'a str>,

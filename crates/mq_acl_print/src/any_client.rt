@@ -80,8 +80,9 @@ fn add_words(
     }
 }
 
-/// A topic that some client with this user name, or without one, can be sent for a filter, with the line that allows it; or
-/// that none of them can be sent anything. `about` is the user name and the filter.
+/// A topic that some client with this user name, or without one, can be sent for a filter, with the
+/// line that allows it; or that none of them can be sent anything. `about` is the user name and the
+/// filter.
 pub fn any_text(
     alloc: Global,
     list: ListText<'_, '_>,

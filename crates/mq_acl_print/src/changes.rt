@@ -43,7 +43,7 @@ impl ComparedTraffic<'_> {
 pub struct Scope<'a> {
     /// Whose.
     pub rules: Rules,
-    /// Of which differences alone it is told, if not of all.
+    /// Which differences alone are shown, if not all.
     pub only: Option<Way>,
     /// Whether client ids and user names with `/`, `+` or `#` are left out.
     pub is_limited: bool,
@@ -67,7 +67,7 @@ struct ChangeRow<'a> {
     publishes: Option<String>,
 }
 
-// One step where it is dropped, and not one for each thing inside.
+// Opaque to callers' proofs: one step, and not one for each field (docs/explanation/gate.md).
 impl Drop for ChangeRow<'_> {
     fn drop(self) {
         let ChangeRow {

@@ -11,7 +11,7 @@ pub(crate) struct Side<'a> {
     pub(crate) words: &'a str,
 }
 
-// One step where it is dropped, and not one for each thing inside.
+// Opaque to callers' proofs: one step, and not one for each field (docs/explanation/gate.md).
 impl Drop for Side<'_> {
     fn drop(self) {
         let Side { place: _, words: _ } = self;

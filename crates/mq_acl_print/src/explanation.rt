@@ -105,7 +105,8 @@ fn add_asked(text: &mut String, asked: AskedTopic<'_>) -> Result<(), AllocError>
     write!(text, ", topic {topic}\n{unnamed}")
 }
 
-/// What is asked, and the answers for reading and writing, each with the line that decides it; as JSON the answers alone.
+/// What is asked, and the answers for reading and writing, each with the line that decides it; as
+/// JSON the answers alone.
 pub fn explanation_text(
     alloc: Global,
     list: ListText<'_, '_>,

@@ -1,4 +1,4 @@
-//! What is told of access lists, in words and as JSON.
+//! What is printed of access lists, in words and as JSON.
 #![tactic(auto)]
 
 mod any_client;

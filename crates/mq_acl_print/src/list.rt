@@ -4,7 +4,7 @@ use std::alloc::{AllocError, Global};
 /// An access list: the name of its file, and its text.
 #[derive(Clone, Copy, Drop)]
 pub struct ListText<'a, 't> {
-    /// The name of its file, as it is told.
+    /// The name of its file, as it is shown.
     pub file: &'a str,
     /// Its text.
     pub text: &'t str,
@@ -46,7 +46,7 @@ pub fn lines_of(alloc: Global, text: &str) -> Result<Vec<&str>, AllocError> {
 /// An access list of which many lines are looked up: the name of its file, and its lines.
 #[derive(Clone, Copy, Drop)]
 pub struct Lines<'a, 'l, 't> {
-    /// The name of its file, as it is told.
+    /// The name of its file, as it is shown.
     pub file: &'a str,
     /// Its lines.
     pub lines: &'l [&'t str],

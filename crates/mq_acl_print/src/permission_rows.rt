@@ -1,4 +1,4 @@
-//! What is allowed, in rows of those that are told alike.
+//! What is allowed, in rows of those that are shown alike.
 use crate::deciding::{Side, decision};
 use crate::list::Lines;
 use crate::placeholders::shown_topic;
@@ -16,7 +16,7 @@ pub(crate) struct DenialRow<'a> {
     pub(crate) side: Side<'a>,
 }
 
-// One step where it is dropped, and not one for each thing inside.
+// Opaque to callers' proofs: one step, and not one for each field (docs/explanation/gate.md).
 impl Drop for DenialRow<'_> {
     fn drop(self) {
         let DenialRow { topic: _, side: _ } = self;
@@ -39,7 +39,7 @@ pub(crate) struct PermissionRow<'a> {
     pub(crate) denials: Vec<DenialRow<'a>>,
 }
 
-// One step where it is dropped, and not one for each thing inside.
+// Opaque to callers' proofs: one step, and not one for each field (docs/explanation/gate.md).
 impl Drop for PermissionRow<'_> {
     fn drop(self) {
         let PermissionRow {
@@ -112,7 +112,7 @@ fn row_of<'a>(
     })
 }
 
-// The same for rows that are told alike: no topic has the byte 0.
+// The same for rows that are shown alike: no topic has the byte 0.
 fn key_of(alloc: Global, row: &PermissionRow<'_>) -> Result<String, AllocError> {
     let mut key = String::from_str(alloc, row.access)?;
     add_part(&mut key, row.side.place.as_str())?;
@@ -136,7 +136,7 @@ pub(crate) struct PermissionRows<'a> {
     places: BTreeMap<String, usize>,
 }
 
-// One step where it is dropped, and not one for each thing inside.
+// Opaque to callers' proofs: one step, and not one for each field (docs/explanation/gate.md).
 impl Drop for PermissionRows<'_> {
     fn drop(self) {
         let PermissionRows { rows: _, places: _ } = self;

@@ -23,8 +23,8 @@ pub struct ListTraffic<'a> {
 }
 
 impl<'a> ListTraffic<'a> {
-    // The publishes that the permission is about at most: those to topics that the filter that is asked about matches, and
-    // that of the line.
+    // The publishes that the permission is about at most: those to topics that the filter that is
+    // asked about matches, and that of the line.
     fn publishes(
         self,
         alloc: Global,
@@ -276,8 +276,8 @@ fn told<'a>(
     table(alloc, asked, rows.as_slice())
 }
 
-/// Who may by the list, as it was asked: as a table of what is told alike, or as JSON, one object a line. `granted` is what
-/// it allows, and `refused` what it doesn't allow the same clients.
+/// Who may by the list, as it was asked: as a table of what is shown alike, or as JSON, one object
+/// a line. `granted` is what it allows, and `refused` what it doesn't allow the same clients.
 pub fn permissions_text(
     alloc: Global,
     list: ListText<'_, '_>,

@@ -31,7 +31,8 @@ fn kind_of(difference: &Difference, text: &str) -> Kind {
     }
 }
 
-// Whether it stands for those alone that begin with `$`. Of a client id or a user name this is so at the front of a topic.
+// Whether it stands for those alone that begin with `$`. Of a client id or a user name this is so
+// at the front of a topic.
 fn is_hidden(level: &str, place: usize, kind: Kind) -> bool {
     let matters = place == 0 || matches!(kind, Kind::Level);
     matters && level.starts_with('$')
@@ -68,8 +69,8 @@ fn add_client(text: &mut String, difference: &Difference) -> Result<(), AllocErr
     write!(text, "  client id: {client:?}")
 }
 
-/// The topic of a difference, with what its levels stand for in their places, and the client id where it stands for itself
-/// alone.
+/// The topic of a difference, with what its levels stand for in their places, and the client id
+/// where it stands for itself alone.
 pub fn shown_topic(alloc: Global, difference: &Difference) -> Result<String, AllocError> {
     let mut text = String::new(alloc);
     for (place, level) in difference.topic.text().split('/').enumerate() {

@@ -24,7 +24,7 @@ pub(crate) struct Refusals<'a> {
     places: BTreeMap<String, Vec<usize>>,
 }
 
-// One step where it is dropped, and not one for each thing inside.
+// Opaque to callers' proofs: one step, and not one for each field (docs/explanation/gate.md).
 impl Drop for Refusals<'_> {
     fn drop(self) {
         let Refusals {

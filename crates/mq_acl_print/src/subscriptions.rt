@@ -12,7 +12,7 @@ struct SubscriptionRow<'a> {
     filter: &'a str,
 }
 
-// One step where it is dropped, and not one for each thing inside.
+// Opaque to callers' proofs: one step, and not one for each field (docs/explanation/gate.md).
 impl Drop for SubscriptionRow<'_> {
     fn drop(self) {
         let SubscriptionRow {

@@ -3,14 +3,14 @@ use crate::made_up::is_made_up;
 use mq_findings::{Class, Difference, Group};
 use std::alloc::{AllocError, Global};
 
-/// How many user names are told in a row.
+/// How many user names are shown in a row.
 const MOST_NAMES: usize = 4;
 
 fn has_anonymous(all: &[&Difference]) -> bool {
     all.iter().any(|one| matches!(one.class, Class::Anonymous))
 }
 
-// Whether it is of all user names that no line is for: the one that it tells stands for them.
+// Whether it is of all user names that no line is for: the one that it shows stands for them.
 fn is_of_others(difference: &Difference) -> bool {
     match &difference.class {
         Class::Others(name) => is_made_up(difference, name.as_str()),

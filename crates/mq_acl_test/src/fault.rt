@@ -12,14 +12,15 @@ pub enum TestFault<'a> {
         file: &'a str,
         line: u64,
     },
-    /// By mosquitto's rules the `pattern` row with this line of the list in this file has a mark that is a part of a level.
+    /// By mosquitto's rules the `pattern` row with this line of the list in this file has a mark
+    /// that is a part of a level.
     Mark {
         file: &'a str,
         line: u64,
     },
-    /// The steps don't suffice for the line `expectation`: when they were spent, it was to be known what the row with the line
-    /// `row` of the list in this file allows, or the filter of that line where it is 0, which has to be seen against so many
-    /// others.
+    /// The steps don't suffice for the line `expectation`: when they were spent, it was to be known
+    /// what the row with the line `row` of the list in this file allows, or the filter of that line
+    /// where it is 0, which has to be seen against so many others.
     GaveUp {
         expectation: u64,
         file: &'a str,

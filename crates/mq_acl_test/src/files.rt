@@ -77,8 +77,9 @@ fn add_named<'a>(
     Ok(())
 }
 
-/// The files of the lists that are wanted to judge the expectations, each once: those that are given, and then those that
-/// lines name, in their order. Where some are given, those behind `acl` aren't wanted.
+/// The files of the lists that are wanted to judge the expectations, each once: those that are
+/// given, and then those that lines name, in their order. Where some are given, those behind `acl`
+/// aren't wanted.
 pub fn wanted_files<'a>(
     alloc: Global,
     given: &[&'a str],

@@ -9,13 +9,14 @@ use mq_findings::Difference;
 /// What comes of a line of a file of expectations.
 #[derive(Debug, Drop)]
 pub enum Finding<'a> {
-    /// It holds, for each client and topic that is asked about. By mosquitto's rules clients whose id or user name holds `/`,
-    /// `+` or `#` aren't asked about: of no claim, and of no list that is compared where one of both has `pattern` lines.
+    /// It holds, for each client and topic that is asked about. By mosquitto's rules clients whose
+    /// id or user name holds `/`, `+` or `#` aren't asked about: of no claim, and of no list that
+    /// is compared where one of both has `pattern` lines.
     Holds,
     /// What it says of clients isn't so of this client and topic: `old_reason` is the line of the list that decides.
     Fails(Difference),
-    /// The list allows what the one behind `at most` doesn't, or not what the one behind `at least` does: `new_reason` is the
-    /// line of the list that decides, `old_reason` that of the other one.
+    /// The list allows what the one behind `at most` doesn't, or not what the one behind `at least`
+    /// does: `new_reason` is the line of the list that decides, `old_reason` that of the other one.
     Differs(Difference),
     /// One topic at least is expected to be allowed, and none is in this direction.
     NoneMay(Direction),

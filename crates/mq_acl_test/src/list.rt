@@ -18,7 +18,7 @@ pub struct ReadList<'a, 't> {
     pub rows: Vec<Row>,
 }
 
-// One step where it is dropped, and not one for each thing inside.
+// Opaque to callers' proofs: one step, and not one for each field (docs/explanation/gate.md).
 impl Drop for ReadList<'_, '_> {
     fn drop(self) {
         let ReadList { list: _, rows: _ } = self;

@@ -24,7 +24,7 @@ fn kind_name(finding: &Finding<'_>) -> &'static str {
     }
 }
 
-// What is told of the client and the topic that show it.
+// What is said of the client and the topic that show it.
 #[derive(Clone, Copy, Drop)]
 struct Shown<'v> {
     access: Option<&'v str>,

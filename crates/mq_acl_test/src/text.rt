@@ -112,7 +112,8 @@ fn words(
     Ok(text)
 }
 
-/// The lines that don't hold, each with why, and how many do; or as JSON, all of them, one a line, and then how many hold.
+/// The lines that don't hold, each with why, and how many do; or as JSON, all of them, one a line,
+/// and then how many hold.
 pub fn verdicts_text(
     alloc: Global,
     rules: Rules,

@@ -38,12 +38,13 @@ fn add<'p, 'a>(
     Ok(())
 }
 
-/// What comes of each line of a file of expectations that expects something, by these rules: in the order of the lines, of
-/// the list that is named last before it. Where the files of lists are given, the whole is judged of each of these in turn, and
-/// what `acl` lines name is passed over.
+/// What comes of each line of a file of expectations that expects something, by these rules: in the
+/// order of the lines, of the list that is named last before it. Where the files of lists are
+/// given, the whole is judged of each of these in turn, and what `acl` lines name is skipped.
 ///
-/// Each list that is wanted has to be among those that were read. So many steps are given to each comparison of two lists,
-/// and to each claim about clients. Where they don't suffice nothing is said of any line.
+/// Each list that is wanted has to be among those that were read. So many steps are given to each
+/// comparison of two lists, and to each claim about clients. Where they don't suffice nothing is
+/// said of any line.
 pub fn judge_all<'p, 'a>(
     alloc: Global,
     rules: Rules,

@@ -93,8 +93,8 @@ fn parse_acl(alloc: Global, rules: Rules, bytes: &[u8]) -> Result<Acl, AclFileFa
     }
 }
 
-/// Reads an access list by these rules from the bytes that a reader gives, in whatever pieces. Memory is that of the file
-/// and of its access list.
+/// Reads an access list by these rules from the bytes that a reader gives, in whatever pieces.
+/// Memory is that of the file and of its access list.
 pub fn read_acl<R: Source>(alloc: Global, rules: Rules, reader: &mut R) -> Result<Acl, AclFileFault>
     ensures { AclFileEnds acl_file_limit rules result
         (watch R.to_come R.failures reader.old reader.new) }

@@ -79,7 +79,7 @@ pub struct Options {
     pub script: Option<String>,
 }
 
-// One step where it is dropped, and not one for each thing inside.
+// Opaque to callers' proofs: one step, and not one for each field (docs/explanation/gate.md).
 impl Drop for Options {
     fn drop(self) {
         let Options {

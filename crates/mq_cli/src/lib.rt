@@ -1,7 +1,8 @@
 //! The command line of the routing half of an MQTT broker.
 //!
-//! `start` is all of the program but its streams: `arguments` reads the command line, `read_acl` the access list, and the script
-//! goes through `run` of `mq_run`. What reads, runs and prints a script is passed on, so that a caller needs no other crate.
+//! `start` is all of the program but its streams: `arguments` reads the command line, `read_acl`
+//! the access list, and the script goes through `run` of `mq_run`. What reads, runs and prints a
+//! script is passed on, so that a caller needs no other crate.
 #![tactic(auto)]
 
 mod acl_file;

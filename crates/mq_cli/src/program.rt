@@ -32,7 +32,7 @@ use std::alloc::{AllocError, Global};
 use std::fs;
 use std::rt::Files;
 
-/// Opens a file; lack of memory is told apart.
+/// Opens a file; lack of memory is an error of its own.
 fn open<'a, R: Files>(
     rt: &R,
     file: &'a str,
@@ -88,7 +88,7 @@ fn limits(options: &Options) -> Limits
     }
 }
 
-/// The file of the script. A script that is no file is read from the input.
+/// The file of the script. A script that is not a file is read from the input.
 fn script_of(options: &Options) -> Option<&str>
     ensures { option_map (λ t. t.now) result
         ≡ script_file (option_map string_bytes options.now.script) }
@@ -203,8 +203,8 @@ fn print<W: Sink>(writer: &mut W, text: &str) -> Result<(), RunFault>
     flush(writer)
 }
 
-/// Tells a text, or that there was no memory for it, and answers the exit status: the one that is given, or that of want
-/// of memory. A failed write is passed over.
+/// Prints a text, or that there was no memory for it, and answers the exit status: the one that is
+/// given, or that of want of memory. A failed write is ignored.
 fn tell<E: Sink>(text: Result<String, AllocError>, status: u8, err: &mut E) -> u8
     ensures { result ≡ (if is_ok text then status else 3) }
 {
@@ -216,7 +216,7 @@ fn tell<E: Sink>(text: Result<String, AllocError>, status: u8, err: &mut E) -> u
     status
 }
 
-/// Tells why the program ends, and answers its status: 3 too where there is no memory for the text.
+/// Says why the program ends, and answers its status: 3 too where there is no memory for the text.
 fn report<E: Sink>(alloc: Global, failure: Failure<'_>, err: &mut E) -> u8
     ensures bound { result ≤ 3 }
     ensures status { (result ≡ failure_status failure.entry) ⊎ (result ≡ 3) }
@@ -243,10 +243,11 @@ fn report_usage<W: Sink, E: Sink>(alloc: Global, fault: UsageFault, out: &mut W,
     }
 }
 
-/// Runs the program: `words` are its name and its arguments, a script that is no file is read from `input`, answers go to
-/// `out`, and a line on `err` says what failed. The access list is read before the script is opened. Answers the exit
-/// status: 0 where every line was accepted or help was asked for, 1 where a line was refused, 2 where the words are not
-/// understood, the script can't be opened, or the access list can't be read or understood, and 3 where the run or the
+/// Runs the program: `words` are its name and its arguments, a script that is not a file is read
+/// from `input`, answers go to `out`, and a line on `err` says what failed. The access list is read
+/// before the script is opened. Answers the exit status: 0 where every line was accepted or help
+/// was asked for, 1 where a line was refused, 2 where the words are not understood, the script
+/// can't be opened, or the access list can't be read or understood, and 3 where the run or the
 /// printing of help failed, or memory ran out, even if only for the line on `err`.
 pub fn start<R: Files, S: Source, W: Sink, E: Sink>(
     rt: &R,
@@ -258,7 +259,7 @@ pub fn start<R: Files, S: Source, W: Sink, E: Sink>(
 ) -> u8
     ensures bound { result ≤ 3 }
 
-    // Where the words are understood and name no file, and input and output tell their bytes, all of the input is
+    // Where the words are understood and name no file, and the bytes of input and output are known, all of the input is
     // answered, under the limits and the rules in the words, unless the run failed.
     ensures answered { (script before : List ℕ) → let given_words = map string_bytes words.now in
         faults_in given_words ≡ [] → given (codes "acl-file") given_words ≡ None
@@ -298,15 +299,16 @@ pub fn start<R: Files, S: Source, W: Sink, E: Sink>(
     ensures unbuffered { IsGiven (codes "unbuffered") (map string_bytes words.now)
         → S.failures input.new ≢ S.failures input.old → W.flushed out.new ≡ W.taken out.new }
 
-    // Of words that are not understood a fault that they have is told, or that memory ran out: of help the status is 0,
-    // or 3 where it can't be written, of another fault 2, and of a lack of memory 3.
+    // Of words that are not understood a fault that they have is printed, or that memory ran out:
+    // of help the status is 0, or 3 where it can't be written, of another fault 2, and of a lack of
+    // memory 3.
     ensures usage { let given_words = map string_bytes words.now in
         faults_in given_words ≢ []
         → (input.new ≡ input.old)
         × ((fault : UsageFault) × IsFaultOf (faults_in given_words) fault
         × TellsUsage fault result (W.taken out.old) (W.taken out.new) (W.flushed out.new)) }
 
-    // At a status of 0 or 1 all that was written is handed on, and nothing is told.
+    // At a status of 0 or 1 all that was written is handed on, and nothing is printed.
     ensures flushed { result ≢ 2 → result ≢ 3 → W.flushed out.new ≡ W.taken out.new }
     ensures quiet { result ≢ 2 → result ≢ 3 → err.new ≡ err.old }
 {

@@ -17,9 +17,10 @@ use crate::remainder::Remainder;
 use crate::start::Start;
 use std::alloc::{AllocError, Global};
 
-/// A name that each of `must` covers and none of `cover` does, by its levels from here on, at most `budget` of them;
-/// none only where there is none. It goes down at most `budget` levels, and at most one below the longest filter; at each
-/// it goes through the remainders a few times. The only error is that memory is refused.
+/// A name that each of `must` covers and none of `cover` does, by its levels from here on, at most
+/// `budget` of them; none only where there is none. It goes down at most `budget` levels, and at
+/// most one below the longest filter; at each it goes through the remainders a few times. The only
+/// error is that memory is refused.
 pub fn find<'a>(
     alloc: Global,
     marks: Marks<'a>,

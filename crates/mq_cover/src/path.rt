@@ -9,7 +9,7 @@ pub struct Path<'a> {
     pub levels: Vec<&'a str>,
 }
 
-// One step where it is dropped, and not one for each thing inside.
+// Opaque to callers' proofs: one step, and not one for each field (docs/explanation/gate.md).
 impl Drop for Path<'_> {
     fn drop(self) {
         let Path { levels: _ } = self;

@@ -8,7 +8,7 @@ pub enum Start {
     Plain,
     /// At the front of one that does.
     Dollar,
-    /// Behind an empty first level: an empty text is no name, so none ends here.
+    /// Behind an empty first level: an empty text is not a name, so none ends here.
     Slash,
     /// Further on.
     Inside,

@@ -1,4 +1,4 @@
-//! Commands applied to a router, told in the words of the definition.
+//! Commands applied to a router, in the words of the definition.
 ghost use Rattle.std.specs.Prelude.{◌≡◌, IsTrue, IfOk, OnErr};
 ghost use Rattle.mq_world.specs.World.{World};
 ghost use Rattle.mq_world.specs.Answers.{answer};

@@ -1,4 +1,4 @@
-//! The router as a library: an example, which docs/explanation/calling.md tells of. A client is sent what it publishes.
+//! The router as a library: an example, which docs/explanation/calling.md speaks of. A client is sent what it publishes.
 #![tactic(auto)]
 
 mod copies;

@@ -9,7 +9,7 @@ pub enum ExpectationKind {
     Access,
     /// The filter is missing, no valid topic filter, or a shared subscription.
     Filter,
-    /// `%c` or `%u` stands in the filter and is no whole level.
+    /// `%c` or `%u` stands in the filter and is not a whole level.
     Pattern,
     /// What follows the filter isn't `except` with names between commas, or these aren't excepted from `anyone`.
     Except,

@@ -24,7 +24,7 @@ pub struct ByOwner<'a> {
     named: BTreeMap<String, Vec<Marked<'a>>>,
 }
 
-// One step where it is dropped, and not one for each thing inside.
+// Opaque to callers' proofs: one step, and not one for each field (docs/explanation/gate.md).
 impl Drop for ByOwner<'_> {
     fn drop(self) {
         let ByOwner {

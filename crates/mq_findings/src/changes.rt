@@ -34,7 +34,7 @@ struct ClassRows<'q> {
     new: Vec<Marked<'q>>,
 }
 
-// One step where it is dropped, and not one for each thing inside.
+// Opaque to callers' proofs: one step, and not one for each field (docs/explanation/gate.md).
 impl Drop for ClassRows<'_> {
     fn drop(self) {
         let ClassRows {
@@ -136,8 +136,9 @@ fn add_all(alloc: Global, report: &mut Report, lists: &Lists) -> Result<(), Comp
     Ok(())
 }
 
-/// Where two lists differ: for the clients without a user name, for those of each user name that a list names, and for
-/// those of all others, what they gain and lose in each direction. Of what the same lines decide, one difference is told.
+/// Where two lists differ: for the clients without a user name, for those of each user name that a
+/// list names, and for those of all others, what they gain and lose in each direction. Of what the
+/// same lines decide, one difference is listed.
 ///
 /// A step is a row that is looked at for one question, or as much work as that takes. Where the steps don't suffice the
 /// comparison is given up, so that an answer is always the whole one. So many as `enough_steps` says always suffice.

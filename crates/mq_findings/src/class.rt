@@ -18,7 +18,7 @@ pub enum Class {
 }
 
 impl Class {
-    /// The user name of the client that is told, if it has one.
+    /// The user name of the client that is shown, if it has one.
     pub fn user(&self) -> Option<&str>
         ensures { option_copied result ≡ user_of self.now }
     {

@@ -8,7 +8,7 @@ use crate::ranks::{is_judge, rank};
 use mq_acl::{Direction, Row, Rules, concerns_by, user_by};
 use mq_topic::TopicName;
 
-/// What a client wants to do.
+/// What a client does.
 #[derive(Clone, Copy, Drop)]
 pub(crate) struct Request<'a> {
     pub rules: Rules,

@@ -13,7 +13,7 @@ use mq_topic::{LevelText, TopicName};
 /// A topic that a client may read or write by one list, and may not by another.
 #[derive(Debug)]
 pub struct Difference {
-    /// Of which clients it is told.
+    /// Which clients it is about.
     pub class: Class,
     /// Whether it is read or written.
     pub direction: Direction,
@@ -32,7 +32,7 @@ pub struct Difference {
     pub new_reason: Reason,
 }
 
-// One step where it is dropped, and not one for each thing inside.
+// Opaque to callers' proofs: one step, and not one for each field (docs/explanation/gate.md).
 impl Drop for Difference {
     fn drop(self) {
         let Difference {

@@ -22,8 +22,8 @@ pub enum ComparisonFault {
     OldMark(u64),
     /// So has the row with this line of the new list.
     NewMark(u64),
-    /// The steps don't suffice: when they were spent, it was to be known what the row with this line of this list changes,
-    /// which has to be seen against so many others.
+    /// The steps don't suffice: when they were spent, it was to be known what the row with this
+    /// line of this list changes, which has to be seen against so many others.
     GaveUp(Side, u64, u64),
 }
 

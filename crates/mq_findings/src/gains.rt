@@ -32,7 +32,8 @@ use mq_acl::{Direction, Row, Rules, is_deny};
 use mq_witness::{Clients, Witness};
 use std::alloc::{AllocError, Global};
 
-// So many rows are gathered for clients of one class, or so many pairs of rows passed over, in the time of one look at a row.
+// So many rows are gathered for clients of one class, or so many pairs of rows skipped, in the time
+// of one look at a row.
 const GATHERED: u64 = 4;
 
 const PAIRS: u64 = 8;
@@ -98,7 +99,7 @@ fn reasons(way: Way, gain: &Gain) -> (Reason, Reason)
     }
 }
 
-// What is told of a witness whose topic begins with `$`, or doesn't.
+// What is shown of a witness whose topic begins with `$`, or doesn't.
 fn difference_of(
     alloc: Global,
     question: &Question,

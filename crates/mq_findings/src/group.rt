@@ -22,7 +22,7 @@ pub struct Group {
     pub others: Vec<Difference>,
 }
 
-// One step where it is dropped, and not one for each thing inside.
+// Opaque to callers' proofs: one step, and not one for each field (docs/explanation/gate.md).
 impl Drop for Group {
     fn drop(self) {
         let Group {
@@ -113,7 +113,7 @@ struct Gathering {
     places: BTreeMap<String, Vec<usize>>,
 }
 
-// One step where it is dropped, and not one for each thing inside.
+// Opaque to callers' proofs: one step, and not one for each field (docs/explanation/gate.md).
 impl Drop for Gathering {
     fn drop(self) {
         let Gathering {

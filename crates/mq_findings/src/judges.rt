@@ -18,7 +18,7 @@ pub(crate) struct Judges<'a> {
     pub denies: Vec<usize>,
 }
 
-// One step where it is dropped, and not one for each thing inside.
+// Opaque to callers' proofs: one step, and not one for each field (docs/explanation/gate.md).
 impl Drop for Judges<'_> {
     fn drop(self) {
         let Judges { rows: _, denies: _ } = self;

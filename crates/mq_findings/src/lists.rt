@@ -27,7 +27,7 @@ pub(crate) struct Lists<'a> {
     pub limited: bool,
 }
 
-// One step where it is dropped, and not one for each thing inside.
+// Opaque to callers' proofs: one step, and not one for each field (docs/explanation/gate.md).
 impl Drop for Lists<'_> {
     fn drop(self) {
         let Lists {
@@ -43,7 +43,7 @@ impl Drop for Lists<'_> {
     }
 }
 
-// What is told of a list that can't be asked, of which the old one is the first.
+// What is answered of a list that can't be asked, of which the old one is the first.
 fn fault_of(fault: ListFault) -> ComparisonFault
     ensures { result ≡ fault_of fault }
 {
@@ -63,8 +63,8 @@ fn both<'a>(alloc: Global, old: &'a [Row], new: &'a [Row]) -> Result<Vec<&'a [Ro
 }
 
 impl<'a> Lists<'a> {
-    /// The two lists. One with a level or a user name of more than 300 bytes is told by its line; by mosquitto's rules so
-    /// is one with a mark that is a part of a level.
+    /// The two lists. One with a level or a user name of more than 300 bytes is named by its line;
+    /// by mosquitto's rules so is one with a mark that is a part of a level.
     pub(crate) fn of(
         alloc: Global,
         rules: Rules,

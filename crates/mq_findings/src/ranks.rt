@@ -17,8 +17,8 @@ fn rank_of(pattern: bool, deny: bool) -> u8
     }
 }
 
-/// The place of a row among those that decide: the one with the least place that concerns a topic decides, and of those of
-/// one place the first. There are four places, 0 to 3.
+/// The place of a row among those that decide: the one with the least place that concerns a topic
+/// decides, and of those of one place the first. There are four places, 0 to 3.
 pub fn rank(rules: Rules, row: &Row) -> u8
     ensures rank { result ≡ rank rules (row_view row.now) }
     ensures low { result < 4 }

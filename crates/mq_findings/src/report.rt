@@ -1,4 +1,4 @@
-//! What is told of two lists.
+//! What is said of two lists.
 ghost use Rattle.std.specs.Prelude.{◌≡◌, ◌++◌, ◌∷◌, [], OnOk, true, false};
 ghost use Rattle.std.specs.List.{list_any};
 ghost use Rattle.mq_findings.specs.Differences.{is_like};
@@ -9,7 +9,7 @@ use crate::steps::Steps;
 use std::alloc::{AllocError, Global};
 use std::cmp::Ordering;
 
-/// The differences that are told, and the steps that are left.
+/// The differences that are listed, and the steps that are left.
 pub(crate) struct Report {
     pub differences: Vec<Difference>,
     pub steps: Steps,
@@ -18,7 +18,7 @@ pub(crate) struct Report {
     ghost is_last: { IsLast differences.items last },
 }
 
-// One step where it is dropped, and not one for each thing inside.
+// Opaque to callers' proofs: one step, and not one for each field (docs/explanation/gate.md).
 impl Drop for Report {
     fn drop(self) {
         let Report {
@@ -54,7 +54,7 @@ impl Report {
         self.steps.spend(limited, steps)
     }
 
-    // Those of the differences that are told that this one may be like. They come class by class, so that these are few.
+    // Those of the listed differences that this one may be like. They come class by class, so that these are few.
     fn same_class(&self, difference: &Difference) -> &[Difference]
         ensures { list_any (λ other. is_like other difference.now) result.now
             ≡ list_any (λ other. is_like other difference.now) self.now.differences.items }
@@ -90,7 +90,7 @@ impl Report {
         }
     }
 
-    /// Adds a difference, unless one is told that is like it.
+    /// Adds a difference, unless one that is like it is listed.
     pub(crate) fn add(&mut self, difference: Difference) -> Result<(), AllocError>
         ensures { OnOk result (self.new.differences.items
             ≡ added self.old.differences.items difference) }

@@ -27,8 +27,8 @@ impl Verdict {
     }
 }
 
-/// Whether by these rules the client with this client id, and with this user name or none, may read or write the topic, and
-/// why.
+/// Whether by these rules the client with this client id, and with this user name or none, may read
+/// or write the topic, and why.
 pub fn why(
     rules: Rules,
     rows: &[Row],

@@ -123,8 +123,8 @@ fn has_mark(row: &Row, mark: &str) -> bool {
     is_pattern(&row.owner) && row.filter.text().split('/').any(|level| level == mark)
 }
 
-// How many texts are tried at most for a mark: one that stands for all others, and where one of the rows has it also those
-// that they name.
+// How many texts are tried at most for a mark: one that stands for all others, and where one of the
+// rows has it also those that they name.
 fn tried_for(must: &[&Row], mark: &str) -> u64 {
     if !must.iter().any(|row| has_mark(row, mark)) {
         return 1;
@@ -136,8 +136,8 @@ fn tried_for(must: &[&Row], mark: &str) -> u64 {
     texts
 }
 
-// What is tried, where a client takes so many steps. A user name that is tried for others is first compared with those of
-// the lists.
+// What is tried, where a client takes so many steps. A user name that is tried for others is first
+// compared with those of the lists.
 fn tries(clients: Clients, users: usize, must: &[&Row], each: u64) -> u64 {
     let ids = tried_for(must, "%c").saturating_mul(each);
     match clients {
@@ -149,10 +149,10 @@ fn tries(clients: Clients, users: usize, must: &[&Row], each: u64) -> u64 {
     }
 }
 
-/// The steps that it takes to find a client and a topic that each of `must` concerns and none of `cover` does, of lists with
-/// so many user names. Each of `cover` is seen against those of `must`; then for each client that is tried the levels of
-/// `must` are gone through, and with them those of the rows of `cover` that are near them. Where steps aren't limited, they
-/// aren't counted.
+/// The steps that it takes to find a client and a topic that each of `must` concerns and none of
+/// `cover` does, of lists with so many user names. Each of `cover` is seen against those of `must`;
+/// then for each client that is tried the levels of `must` are gone through, and with them those of
+/// the rows of `cover` that are near them. Where steps aren't limited, they aren't counted.
 pub fn work_of(
     limited: bool,
     clients: Clients,

@@ -186,7 +186,7 @@ pub struct Copies {
         (members_view with_group.members.entries) },
 }
 
-// One step where it is dropped, and not one for each thing inside.
+// Opaque to callers' proofs: one step, and not one for each field (docs/explanation/gate.md).
 impl Drop for Copies {
     fn drop(self) {
         let Copies {

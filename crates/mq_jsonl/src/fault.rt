@@ -3,14 +3,14 @@ ghost use Rattle.mq_jsonl.specs.declared.fault.LineFault.TheVariants.{Memory};
 
 use std::alloc::AllocError;
 
-/// Why a line is no command: the first of these whose condition holds. `Memory` may stand in place of any answer.
+/// Why a line is not a command: the first of these whose condition holds. `Memory` may stand in place of any answer.
 #[derive(Clone, Copy, Debug, PartialEq, Eq)]
 pub enum LineFault {
     /// The line has more than 1,048,576 bytes.
     LineTooLong,
-    /// The line is no JSON text.
+    /// The line is not JSON text.
     BadJson,
-    /// The value is no object, or its `do` is missing or names no command.
+    /// The value is not an object, or its `do` is missing or names no command.
     BadCommand,
     /// A field is missing, is of another kind, is out of range, or is none of the command's.
     BadField,

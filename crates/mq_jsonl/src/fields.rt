@@ -23,7 +23,7 @@ pub fn field<'a>(members: &'a Map<String, Value>, name: &str) -> Option<&'a Valu
 
 /// The members of an object that are left. Each name asked for is compared with the next member alone, so a name that
 /// isn't asked for in its place stays, and what comes after it seems absent. A field with a fault is read as if it were
-/// absent, or as an empty one where it must be there, and `are_faulty` tells it.
+/// absent, or as an empty one where it must be there, and `are_faulty` says so.
 pub struct Fields<'a> {
     alloc: Global,
     next: Option<(&'a String, &'a mut Value)>,
@@ -31,7 +31,7 @@ pub struct Fields<'a> {
     is_faulty: bool,
 }
 
-// One step where it is dropped, and not one for each thing inside.
+// Opaque to callers' proofs: one step, and not one for each field (docs/explanation/gate.md).
 impl Drop for Fields<'_> {
     fn drop(self) {
         let Fields {

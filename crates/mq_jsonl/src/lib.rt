@@ -1,8 +1,8 @@
 //! The lines of a script, and the lines that answer them.
 //!
-//! `split_line` cuts a line off, and `read_line` makes a command of it. `print_answer`, `print_refusal` and
-//! `print_line_fault` make the text that answers one; a `Printer` adds the same text line after line, and uses its objects
-//! again.
+//! `split_line` cuts a line off, and `read_line` makes a command of it. `print_answer`,
+//! `print_refusal` and `print_line_fault` make the text that answers one; a `Printer` adds the same
+//! text line after line, and uses its objects again.
 #![tactic(auto)]
 
 mod copies;

@@ -7,7 +7,7 @@ ghost use Rattle.mq_jsonl.specs.Lines.{is_feed, pieces};
 use crate::read::LINE_LIMIT;
 use std::alloc::AllocError;
 
-/// How many bytes of a line are to be kept: one that is longer is no command, whatever follows.
+/// How many bytes of a line are to be kept: one that is longer is not a command, whatever follows.
 pub const LINE_ROOM: usize = LINE_LIMIT + 1;
 
 const LINE_FEED: u8 = b'\n';

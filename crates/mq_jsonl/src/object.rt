@@ -88,7 +88,7 @@ pub struct Object {
     ghost no_float: { members_have_float (members_view members.entries) ≡ false },
 }
 
-// One step where it is dropped, and not one for each thing inside.
+// Opaque to callers' proofs: one step, and not one for each field (docs/explanation/gate.md).
 impl Drop for Object {
     fn drop(self) {
         let Object { members: _ } = self;
@@ -257,7 +257,7 @@ impl Object {
     }
 }
 
-/// The members of a value, of which one that is no object has none.
+/// The members of a value, of which one that is not an object has none.
 pub fn members_of(alloc: Global, value: Value) -> Map<String, Value>
     ensures { members_view result.entries ≡ unwrap_or (as_object (view value)) no_members }
 {

@@ -199,7 +199,7 @@ pub struct Printer {
     ghost report_names: { IsFor (report_names false) (members_view report.members.entries) },
 }
 
-// One step where it is dropped, and not one for each thing inside.
+// Opaque to callers' proofs: one step, and not one for each field (docs/explanation/gate.md).
 impl Drop for Printer {
     fn drop(self) {
         let Printer {
@@ -312,7 +312,8 @@ impl Printer {
         self.report(alloc, line, refusal_report(*refusal), out)
     }
 
-    /// Adds the text line of a line that is no command, as `print_line_fault` does. An error leaves the text as it is.
+    /// Adds the text line of a line that is not a command, as `print_line_fault` does. An error
+    /// leaves the text as it is.
     pub fn line_fault(
         &mut self,
         alloc: Global,
@@ -342,8 +343,8 @@ pub fn print_answer(
     Printer::new(alloc).answer(alloc, line, answer, out)
 }
 
-/// Adds the text line of line `line` where its command is refused: its code, its name and, for an access list, the number
-/// of the faulty line. For lack of memory it adds nothing.
+/// Adds the text line of line `line` where its command is refused: its code, its name and, for an
+/// access list, the number of the faulty line. For lack of memory it adds nothing.
 pub fn print_refusal(
     alloc: Global,
     line: u64,
@@ -356,7 +357,8 @@ pub fn print_refusal(
     Printer::new(alloc).refusal(alloc, line, refusal, out)
 }
 
-/// Adds the text line of line `line` where it is no command: its code and its name. For lack of memory it adds nothing.
+/// Adds the text line of line `line` where it is not a command: its code and its name. For lack of
+/// memory it adds nothing.
 pub fn print_line_fault(
     alloc: Global,
     line: u64,

@@ -192,7 +192,7 @@ fn command_in(alloc: Global, members: &mut Map<String, Value>) -> Result<Command
     }
 }
 
-// A value that is no object has no members, and so no word.
+// A value that is not an object has no members, and so no word.
 fn command(alloc: Global, value: Value) -> Result<Command, LineFault>
     ensures value { Gives request_of result (command_of (view value)) }
     ensures valid { IfOk result (λ c. IsTrue (is_valid (request_of c))) }

@@ -106,7 +106,7 @@ pub(crate) fn is_indented_comment(line: &[u8]) -> bool
     is_comment(trimmed(line)) && !is_comment(line)
 }
 
-/// Whether a tab stands before or between the words of a line that is no comment.
+/// Whether a tab stands before or between the words of a line that is not a comment.
 pub(crate) fn is_tabbed(line: &[u8]) -> bool
     ensures { result ≡ is_tabbed line.now }
 {

@@ -32,7 +32,7 @@ pub(crate) struct Case<'q, 'a> {
         (row_view question.row.now) question.asked.now.rows },
 }
 
-// One step where it is dropped, and not one for each thing inside.
+// Opaque to callers' proofs: one step, and not one for each field (docs/explanation/gate.md).
 impl Drop for Case<'_, '_> {
     fn drop(self) {
         let Case {
@@ -180,8 +180,8 @@ impl<'q, 'a> Case<'q, 'a> {
         Ok(alone)
     }
 
-    // Whether the list without the row allows these clients something else in this direction: what no other row decides, or
-    // one that comes behind it and says the opposite.
+    // Whether the list without the row allows these clients something else in this direction: what
+    // no other row decides, or one that comes behind it and says the opposite.
     fn is_needed_in(
         &self,
         alloc: Global,

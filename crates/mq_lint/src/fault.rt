@@ -1,6 +1,6 @@
 use std::alloc::AllocError;
 
-/// Why the needless lines of a list can't be told.
+/// Why the needless lines of a list aren't known.
 #[derive(Clone, Copy, Debug, PartialEq, Eq)]
 pub enum NeedlessFault {
     /// There was no memory.

@@ -90,9 +90,9 @@ fn add_line(
     add(remarks, number, tab)
 }
 
-/// What is odd about the lines of the access list with this text, read by these rules, in their order: each fault, and not
-/// the first alone; `pattern` lines without a mark; and, by our own rules, what mosquitto 2.0 reads otherwise, or doesn't
-/// start with.
+/// What is odd about the lines of the access list with this text, read by these rules, in their
+/// order: each fault, and not the first alone; `pattern` lines without a mark; and, by our own
+/// rules, what mosquitto 2.0 reads otherwise, or doesn't start with.
 pub fn remarks(alloc: Global, rules: Rules, text: &str) -> Result<Vec<Remark>, AllocError>
     ensures all { IfOk result (λ remarks. remarks.items ≡ remarks_of rules text.now) }
     ensures faults { IfOk result (λ remarks. faults_told remarks.items

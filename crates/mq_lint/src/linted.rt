@@ -27,7 +27,7 @@ pub(crate) struct Lint<'a> {
     ghost is_lint: { IsLint rules rows.now asked by_owner classes.items },
 }
 
-// One step where it is dropped, and not one for each thing inside.
+// Opaque to callers' proofs: one step, and not one for each field (docs/explanation/gate.md).
 impl Drop for Lint<'_> {
     fn drop(self) {
         let Lint {
@@ -63,8 +63,8 @@ impl<'a> Lint<'a> {
     ghost use Rattle.mq_findings.specs.Steps.{enough_steps};
     ghost use Rattle.mq_lint.specs.NeedlessFault.{IsNeedlessFault};
 
-    /// A list. One with a level or a user name of more than 300 bytes is told by its line; by mosquitto's rules so is one
-    /// with a mark that is a part of a level.
+    /// A list. One with a level or a user name of more than 300 bytes is named by its line; by
+    /// mosquitto's rules so is one with a mark that is a part of a level.
     pub(crate) fn of(
         alloc: Global,
         rules: Rules,

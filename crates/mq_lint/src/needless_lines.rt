@@ -97,7 +97,7 @@ fn denies_nothing(
     Ok(!met)
 }
 
-// What is told of a row that doesn't repeat another, if anything is.
+// What is said of a row that doesn't repeat another, if anything is.
 fn kind_alone(
     alloc: Global,
     lint: &Lint,
@@ -118,7 +118,7 @@ fn kind_alone(
     Ok(Some(RemarkKind::Needless(by)))
 }
 
-// What is told of the row at this place, if anything is, where this is the line that it repeats.
+// What is said of the row at this place, if anything is, where this is the line that it repeats.
 fn kind_of(
     alloc: Global,
     lint: &Lint,
@@ -146,7 +146,7 @@ fn add_kind(kinds: &mut Vec<Option<RemarkKind>>, kind: Option<RemarkKind>) -> Re
     Ok(())
 }
 
-// What is told of each row, if anything is.
+// What is said of each row, if anything is.
 fn kinds_of(
     alloc: Global,
     lint: &Lint,
@@ -193,11 +193,12 @@ fn remarks_of_kinds(
         .collect(alloc)
 }
 
-/// By these rules: the lines without which, each by itself, the list allows the same to all, and those that repeat another or deny what
-/// no line grants: in the order of the rows.
+/// By these rules: the lines without which, each by itself, the list allows the same to all, and
+/// those that repeat another or deny what no line grants: in the order of the rows.
 ///
-/// A step is a row that is looked at for one question, or as much work as that takes. Where the steps don't suffice nothing
-/// is told, so that an answer is always the whole one. So many as `enough_steps` says always suffice.
+/// A step is a row that is looked at for one question, or as much work as that takes. Where the
+/// steps don't suffice nothing is answered, so that an answer is always the whole one. So many as
+/// `enough_steps` says always suffice.
 pub fn needless(
     alloc: Global,
     rules: Rules,

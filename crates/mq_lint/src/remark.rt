@@ -11,13 +11,13 @@ pub enum RemarkKind {
     IndentedComment,
     /// A tab parts two words, or stands before the first. Mosquitto 2.0 cuts words at spaces alone.
     Tab,
-    /// The line says the same as an earlier one: for the same clients, with the same access and the same filter. The other
-    /// line is the first that does.
+    /// The line says the same as an earlier one: for the same clients, with the same access and the
+    /// same filter. The other line is the first that does.
     Repeats(u64),
     /// The line denies, and no line grants to any client what it denies. It may be there to guard.
     DeniesNothing,
-    /// Without the line, and those that repeat it, the list allows the same to all. The other line, where one is named, is
-    /// the first that alone makes it so; where none is, it takes several.
+    /// Without the line, and those that repeat it, the list allows the same to all. The other line,
+    /// where one is named, is the first that alone makes it so; where none is, it takes several.
     Needless(Option<u64>),
 }
 

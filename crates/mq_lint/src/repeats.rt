@@ -18,7 +18,7 @@ pub(crate) struct Seen {
     keys: BTreeSet<String>,
 }
 
-// One step where it is dropped, and not one for each thing inside.
+// Opaque to callers' proofs: one step, and not one for each field (docs/explanation/gate.md).
 impl Drop for Seen {
     fn drop(self) {
         let Seen { keys: _ } = self;
@@ -75,8 +75,8 @@ impl Seen {
         }
     }
 
-    /// The line of the first of the rows before that says the same as this one, which is seen then. Those before are to have
-    /// been.
+    /// The line of the first of the rows before that says the same as this one, which is seen then.
+    /// Those before are to have been.
     pub(crate) fn repeated(
         &mut self,
         alloc: Global,

@@ -136,13 +136,15 @@ fn add_all(alloc: Global, report: &mut Report, list: &AskedList) -> Result<(), O
     Ok(())
 }
 
-/// Where mosquitto's rules decide otherwise than our own about these rows: of the clients without a user name, of those of
-/// each user name that the list names, and of those of all others, in each direction, one of the topics that begin with `$`
-/// and one of the others, where there is one. Where the list has `pattern` lines it is about client ids and user names
-/// without `/`, `+` and `#`.
+/// Where mosquitto's rules decide otherwise than our own about these rows: of the clients without a
+/// user name, of those of each user name that the list names, and of those of all others, in each
+/// direction, one of the topics that begin with `$` and one of the others, where there is one.
+/// Where the list has `pattern` lines it is about client ids and user names without `/`, `+` and
+/// `#`.
 ///
-/// A step is a row that is looked at for one question, or as much work as that takes. Where the steps don't suffice it is
-/// given up, so that an answer is always the whole one. So many as `enough_steps` says always suffice.
+/// A step is a row that is looked at for one question, or as much work as that takes. Where the
+/// steps don't suffice it is given up, so that an answer is always the whole one. So many as
+/// `enough_steps` says always suffice.
 pub fn decided_otherwise(
     alloc: Global,
     rows: &[Row],

@@ -1,6 +1,6 @@
 use std::alloc::AllocError;
 
-/// Why it can't be told where the rules decide otherwise.
+/// Why it isn't known where the rules decide otherwise.
 #[derive(Clone, Copy, Debug, PartialEq, Eq)]
 pub enum OtherwiseFault {
     /// There was no memory.

@@ -22,7 +22,7 @@ pub(crate) struct AskedList<'a> {
     ghost is_list: { IsList rows.now asked by_owner },
 }
 
-// One step where it is dropped, and not one for each thing inside.
+// Opaque to callers' proofs: one step, and not one for each field (docs/explanation/gate.md).
 impl Drop for AskedList<'_> {
     fn drop(self) {
         let AskedList {
@@ -42,8 +42,8 @@ fn one_list<'a>(alloc: Global, rows: &'a [Row]) -> Result<Vec<&'a [Row]>, AllocE
 }
 
 impl<'a> AskedList<'a> {
-    /// A list. One with a level or a user name of more than 300 bytes, or with a mark that is a part of a level, is told by
-    /// its line.
+    /// A list. One with a level or a user name of more than 300 bytes, or with a mark that is a
+    /// part of a level, is named by its line.
     pub(crate) fn of(
         alloc: Global,
         rows: &'a [Row],

@@ -5,7 +5,7 @@ use mq_topic::TopicName;
 /// Where mosquitto's rules decide otherwise than our own.
 #[derive(Debug)]
 pub struct Otherwise {
-    /// Of which clients it is told.
+    /// Which clients it is about.
     pub class: Class,
     /// Whether the topic is read or written.
     pub direction: Direction,
@@ -19,7 +19,7 @@ pub struct Otherwise {
     pub mosquitto: Reason,
 }
 
-// One step where it is dropped, and not one for each thing inside.
+// Opaque to callers' proofs: one step, and not one for each field (docs/explanation/gate.md).
 impl Drop for Otherwise {
     fn drop(self) {
         let Otherwise {

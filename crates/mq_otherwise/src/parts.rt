@@ -30,7 +30,7 @@ pub(crate) struct Parts<'a> {
     pub aside_grants: Vec<&'a Row>,
 }
 
-// One step where it is dropped, and not one for each thing inside.
+// Opaque to callers' proofs: one step, and not one for each field (docs/explanation/gate.md).
 impl Drop for Parts<'_> {
     fn drop(self) {
         let Parts {

@@ -71,7 +71,7 @@ fn other_rows<'a>(alloc: Global, parts: &Parts<'a>) -> Result<Vec<&'a Row>, Allo
 impl Question<'_, '_> {
     ghost use Rattle.mq_otherwise.specs.Faults.{IsStop};
 
-    // What is told of a witness.
+    // What is shown of a witness.
     fn tell(&self, witness: Witness) -> Otherwise
         requires point { IsPoint self.now.asked.now self.now.clients (string_bytes witness.client)
             (user_view witness.user) witness.name }

@@ -1,17 +1,17 @@
-//! What is told so far.
+//! What is found so far.
 ghost use Rattle.std.specs.Prelude.{◌≡◌, ◌++◌, ◌∷◌, [], OnOk};
 
 use crate::otherwise::Otherwise;
 use mq_findings::Steps;
 use std::alloc::{AllocError, Global};
 
-/// What is told so far, and the steps that are left.
+/// What is found so far, and the steps that are left.
 pub(crate) struct Report {
     pub told: Vec<Otherwise>,
     pub steps: Steps,
 }
 
-// One step where it is dropped, and not one for each thing inside.
+// Opaque to callers' proofs: one step, and not one for each field (docs/explanation/gate.md).
 impl Drop for Report {
     fn drop(self) {
         let Report { told: _, steps: _ } = self;

@@ -26,7 +26,7 @@ fn fault_at(line: u64, text: &str) -> Option<PlanFault>
     Some(PlanFault { line, kind })
 }
 
-/// The first faulty line. It takes no memory.
+/// The first faulty line.
 pub(crate) fn first_fault(text: &str) -> Option<PlanFault>
     ensures { result ≡ slice_get (faults_in (lines text.now)) 0 }
 {

@@ -7,8 +7,8 @@ pub enum Side {
     Right,
 }
 
-/// What is wrong with a line of a plan (the faults are our own). A level is given by its side and its place there, counted
-/// from 0.
+/// What is wrong with a line of a plan (the faults are our own). A level is given by its side and
+/// its place there, counted from 0.
 #[derive(Clone, Copy, PartialEq, Eq)]
 pub enum PlanKind {
     /// It is neither `FROM -> TO` nor `keep FROM` nor `none FROM`.
@@ -17,7 +17,7 @@ pub enum PlanKind {
     Missing { side: Side },
     /// The side has more than 200 levels, or a level of more than 300 bytes.
     Long { side: Side },
-    /// The level begins with `+`, and what follows is no name of letters, digits, `-` and `_`.
+    /// The level begins with `+`, and what follows is not a name of letters, digits, `-` and `_`.
     Capture { side: Side, level: usize },
     /// The level is `%c` or `%u`.
     Mark { side: Side, level: usize },

@@ -17,7 +17,7 @@ pub struct Plan {
     rules: Vec<PlanRule>,
 }
 
-// One step where it is dropped, and not one for each thing inside.
+// Opaque to callers' proofs: one step, and not one for each field (docs/explanation/gate.md).
 impl Drop for Plan {
     fn drop(self) {
         let Plan { rules: _ } = self;
@@ -48,9 +48,10 @@ impl Plan {
         &self.rules
     }
 
-    /// The plan with this text, or its first faulty line. A line is empty, a comment (`#`), `FROM -> TO`, `keep FROM` or
-    /// `none FROM`; a level of a side that is `+` may have a name, as `+hall`. How the text is cut, what stands for what,
-    /// and which faults there are, is our own. The text is tested before memory is taken.
+    /// The plan with this text, or its first faulty line. A line is empty, a comment (`#`), `FROM
+    /// -> TO`, `keep FROM` or `none FROM`; a level of a side that is `+` may have a name, as
+    /// `+hall`. How the text is cut, what stands for what, and which faults there are, is our own.
+    /// The text is tested before memory is taken.
     pub fn read(alloc: Global, text: &str) -> Result<Plan, PlanFault>
         ensures rules { IfOk result (λ plan. rules_of text.now ≡ Ok plan) }
         ensures fault { IfErr result
@@ -92,9 +93,10 @@ impl Plan {
         Some(rule.line)
     }
 
-    /// The new name of the topic, by the first rule whose left side matches it. None where that rule says so, or
-    /// renames it to a text that is no topic name. Where no rule is about it, it keeps its name; but none where the right
-    /// side of some rule matches it, since the plan takes such names for its own.
+    /// The new name of the topic, by the first rule whose left side matches it. None where that
+    /// rule says so, or renames it to a text that is not a topic name. Where no rule is about it,
+    /// it keeps its name; but none where the right side of some rule matches it, since the plan
+    /// takes such names for its own.
     pub fn new_name(&self, alloc: Global, name: &TopicName) -> Result<Option<TopicName>, AllocError>
         ensures { IfOk result (λ found. found ≡ new_name self.now name.now) }
     {

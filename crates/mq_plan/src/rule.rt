@@ -28,7 +28,7 @@ pub struct PlanRule {
     pub act: Act,
 }
 
-// One step where it is dropped, and not one for each thing inside.
+// Opaque to callers' proofs: one step, and not one for each field (docs/explanation/gate.md).
 impl Drop for PlanRule {
     fn drop(self) {
         let PlanRule { line: _, act: _ } = self;

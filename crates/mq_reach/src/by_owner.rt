@@ -20,7 +20,7 @@ pub(crate) struct ByOwner<'a> {
     named: BTreeMap<String, Vec<&'a Row>>,
 }
 
-// One step where it is dropped, and not one for each thing inside.
+// Opaque to callers' proofs: one step, and not one for each field (docs/explanation/gate.md).
 impl Drop for ByOwner<'_> {
     fn drop(self) {
         let ByOwner {

@@ -12,8 +12,8 @@ use crate::tracked::Tracked;
 use mq_sessions::Sessions;
 use std::alloc::Global;
 
-/// A client connects under this user name, or without one. Where its session is resumed, its subscriptions are asked about
-/// again, unless that is the name that it had.
+/// A client connects under this user name, or without one. Where its session is resumed, its
+/// subscriptions are asked about again, unless that is the name that it had.
 pub(crate) fn take_over(
     tracked: &mut Tracked,
     sessions: &Sessions,
@@ -38,7 +38,7 @@ pub(crate) fn take_over(
     tracked.ask(alloc, list, client, user)
 }
 
-/// Takes out the sessions that have ended; none of their subscriptions is kept any more. It takes no memory.
+/// Takes out the sessions that have ended; none of their subscriptions is kept any more.
 pub(crate) fn end_sessions(sessions: &mut Sessions, tracked: &mut Tracked, moment: u64)
     ensures sessions { sessions.new
         ≡ filter (λ session. not (has_ended moment session)) sessions.old }

@@ -11,7 +11,7 @@ pub struct Counts {
     pub commands: u64,
     /// Those of them that make a subscription, or replace one.
     pub subscriptions: u64,
-    /// Those that are no commands, and not blank.
+    /// Those that are not commands, and not blank.
     pub faulty: u64,
     /// The number of the first of these.
     pub first_faulty: Option<u64>,

@@ -1,7 +1,7 @@
 use mq_witness::LimitFault;
 use std::alloc::AllocError;
 
-/// Why it isn't told what a filter reaches. A topic name made of levels of more than 300 bytes could be too long.
+/// Why it isn't known what a filter reaches. A topic name made of levels of more than 300 bytes could be too long.
 #[derive(Clone, Copy, Debug, PartialEq, Eq)]
 pub enum ReachFault {
     /// There was no memory.
@@ -12,8 +12,8 @@ pub enum ReachFault {
     User,
     /// The filter has a level of more than 300 bytes.
     Filter,
-    /// By mosquitto's rules: a `pattern` row has a level of more than 300 bytes, or is no topic filter, with the texts of
-    /// the client in the place of its marks.
+    /// By mosquitto's rules: a `pattern` row has a level of more than 300 bytes, or is not a topic
+    /// filter, with the texts of the client in the place of its marks.
     Pattern,
 }
 

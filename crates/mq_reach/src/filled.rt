@@ -1,4 +1,5 @@
-//! Rows for one client: what `pattern` rows are by mosquitto's rules with the client's texts in the place of their marks.
+//! Rows for one client: what `pattern` rows are by mosquitto's rules with the client's texts in the
+//! place of their marks.
 ghost use Rattle.std.specs.Prelude.{◌≡◌, ◌⊎◌, ◌∷◌, ◌<◌, ◌++◌, ◌||◌, ◌&&◌, not, ℕ, List, [], length};
 ghost use Rattle.std.specs.Prelude.{true, false, Option, All, Contains, IfOk, IfErr, IfNone, IfSome, OnOk};
 ghost use Rattle.std.specs.Prelude.{codes, string_bytes};

@@ -16,7 +16,8 @@ use mq_topic::TopicName;
 use mq_witness::{Asked, LimitFault, ListFault};
 use std::alloc::Global;
 
-/// Rows that are asked about by our own rules. One with a level or a user name of more than 300 bytes is told by its line.
+/// Rows that are asked about by our own rules. One with a level or a user name of more than 300
+/// bytes is named by its line.
 pub(crate) fn asked_of(alloc: Global, rows: &[Row]) -> Result<Asked<'_>, ListFault>
     ensures rows { IfOk result (λ asked. asked.rows ≡ row_views rows.entry.now) }
     ensures short { IfOk result (λ _. long_line rows.entry.now ≡ None) }

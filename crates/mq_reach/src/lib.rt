@@ -1,6 +1,6 @@
-//! The subscriptions of a script, and which of them are in vain: whose client may read no topic that the filter matches,
-//! under none of the user names that its session has while it keeps them. What a client may read is told by our own rules,
-//! or by mosquitto's.
+//! The subscriptions of a script, and which of them can receive nothing: whose client may read no
+//! topic that the filter matches, under none of the user names that its session has while it keeps
+//! them. What a client may read is decided by our own rules, or by mosquitto's.
 #![tactic(auto)]
 
 mod by_owner;

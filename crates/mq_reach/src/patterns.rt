@@ -52,8 +52,8 @@ fn asked_for<'a>(
     }
 }
 
-/// A topic that the row concerns, and some `pattern` row that grants it to the client, and none of its own rows that deny,
-/// nor any `pattern` row that does; or that there is none.
+/// A topic that the row concerns, and some `pattern` row that grants it to the client, and none of
+/// its own rows that deny, nor any `pattern` row that does; or that there is none.
 pub(crate) fn pattern_topic(
     alloc: Global,
     client: Client,

@@ -1,4 +1,4 @@
-//! Whether one subscription is in vain.
+//! Whether one subscription can receive nothing.
 ghost use Rattle.std.specs.Prelude.{◌≡◌, ◌&&◌, ℕ, List, [], not, true, false, Option};
 ghost use Rattle.std.specs.Prelude.{IfOk, IfErr, IsTrue, string_bytes};
 ghost use Rattle.mq_topic.specs.Texts.{filter_part, is_shared, is_subscription};
@@ -18,14 +18,14 @@ use mq_topic::{SubFilter, TopicFilter};
 use mq_witness::ListFault;
 use std::alloc::{AllocError, Global};
 
-/// Why it isn't told whether a subscription is in vain. `Memory` may stand in place of any answer.
+/// Why it isn't known whether a subscription can receive nothing. `Memory` may stand in place of any answer.
 #[derive(Clone, Copy, Debug, PartialEq, Eq)]
 pub enum SearchFault {
     /// The row of the list with this line has a level, or a user name, of more than 300 bytes.
     Row(u64),
-    /// The subscription of this line of the script has a client id, a user name, or a level of its filter, of more than
-    /// 300 bytes; or, by mosquitto's rules, a `pattern` row of the list has such a level or is no topic filter with the
-    /// client's texts in the place of its marks.
+    /// The subscription of this line of the script has a client id, a user name, or a level of its
+    /// filter, of more than 300 bytes; or, by mosquitto's rules, a `pattern` row of the list has
+    /// such a level or is not a topic filter with the client's texts in the place of its marks.
     Subscription(u64),
     /// There was no memory.
     Memory,

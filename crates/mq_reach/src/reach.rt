@@ -61,7 +61,7 @@ pub struct Reach<'a> {
     denying: ByOwner<'a>,
 }
 
-// One step where it is dropped, and not one for each thing inside.
+// Opaque to callers' proofs: one step, and not one for each field (docs/explanation/gate.md).
 impl Drop for Reach<'_> {
     fn drop(self) {
         let Reach {
@@ -87,7 +87,7 @@ impl<'a> Model for Reach<'a> {
 
 impl<'a> Reach<'a> {
     /// Takes the rows of a list, which decide by these rules. One with a level or a user name of more than 300 bytes is
-    /// told by its line; the list has place 0.
+    /// named by its line; the list has place 0.
     pub fn new(alloc: Global, rules: Rules, rows: &'a [Row]) -> Result<Reach<'a>, ListFault>
         ensures list { IfOk result (λ reach. reach ≡ list_by rules (row_views rows.entry.now)) }
         ensures short { IfOk result (λ _. long_line rows.entry.now ≡ None) }
@@ -102,10 +102,11 @@ impl<'a> Reach<'a> {
         })
     }
 
-    /// A topic that the filter matches and that the client with this client id, and with this user name or none, may
-    /// read; or that there is none, of all topic names. By our own rules it looks at each row for the client once, and
-    /// asks more of those that may grant a topic that the filter matches. By mosquitto's it does the same for the rows of
-    /// `topic` lines, and where they grant none it makes a copy of each `pattern` row for the client.
+    /// A topic that the filter matches and that the client with this client id, and with this user
+    /// name or none, may read; or that there is none, of all topic names. By our own rules it looks
+    /// at each row for the client once, and asks more of those that may grant a topic that the
+    /// filter matches. By mosquitto's it does the same for the rows of `topic` lines, and where
+    /// they grant none it makes a copy of each `pattern` row for the client.
     pub fn topic(
         &self,
         alloc: Global,
@@ -153,7 +154,8 @@ impl<'a> Reach<'a> {
         Ok(found)
     }
 
-    // The same by mosquitto's: the client's own rows decide, and where none of them covers a topic the `pattern` rows do.
+    // The same by mosquitto's: the client's own rows decide, and where none of them covers a topic
+    // the `pattern` rows do.
     fn topic_by_mosquitto(
         &self,
         alloc: Global,

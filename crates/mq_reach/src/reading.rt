@@ -31,7 +31,7 @@ pub enum ScriptFault {
     Read(io::Error),
     /// The script has more than 4,294,967,296 bytes.
     TooLong,
-    /// It can't be told of one of its subscriptions whether it is in vain, or there was no memory.
+    /// It isn't known of one of its subscriptions whether it can receive nothing, or there was no memory.
     Search(SearchFault),
 }
 
@@ -151,9 +151,10 @@ fn read_lines<R: Read>(
     }
 }
 
-/// Reads a script, and finds its subscriptions that are in vain under these rows, which decide by these rules: those of a
-/// client that may read no topic that the filter matches. Who is connected with which user name, the commands of the script say; its `acl` lines say
-/// nothing here, and a line that is no command is passed over, and counted.
+/// Reads a script, and finds its subscriptions that can receive nothing under these rows, which
+/// decide by these rules: those of a client that may read no topic that the filter matches. Who is
+/// connected with which user name, the commands of the script say; its `acl` lines say nothing
+/// here, and a line that is not a command is skipped, and counted.
 pub fn find_vain<R: Read>(
     alloc: Global,
     rules: Rules,

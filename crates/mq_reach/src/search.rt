@@ -26,7 +26,7 @@ use std::rc::RcStr;
 
 /// What is found in a script.
 pub struct Findings {
-    /// The subscriptions that are in vain, in the order of their lines.
+    /// The subscriptions that can receive nothing, in the order of their lines.
     pub vain: Vec<Subscription>,
     /// How many lines and subscriptions the script has.
     pub counts: Counts,
@@ -34,7 +34,7 @@ pub struct Findings {
     pub is_log: bool,
 }
 
-// One step where it is dropped, and not one for each thing inside.
+// Opaque to callers' proofs: one step, and not one for each field (docs/explanation/gate.md).
 impl Drop for Findings {
     fn drop(self) {
         let Findings {
@@ -57,7 +57,7 @@ pub(crate) struct Search {
     ghost faulty: { counts.faulty ≤ counts.lines },
 }
 
-// One step where it is dropped, and not one for each thing inside.
+// Opaque to callers' proofs: one step, and not one for each field (docs/explanation/gate.md).
 impl Drop for Search {
     fn drop(self) {
         let Search {
@@ -154,7 +154,7 @@ impl Search {
         is_client_id(client) && self.sessions.connected(client).is_some()
     }
 
-    // A connection ends, if there is one. It takes no memory.
+    // A connection ends, if there is one.
     fn disconnect(&mut self, client: &str)
         ensures { (list : AccessList) → Applies list (Some (Disconnect client.now)) self.old
             self.new }
@@ -170,7 +170,7 @@ impl Search {
         self.tracked.close_all(client);
     }
 
-    // The clock moves, unless past its last moment. It takes no memory.
+    // The clock moves, unless past its last moment.
     fn advance(&mut self, seconds: u64)
         ensures { (list : AccessList) → Applies list (Some (Advance seconds)) self.old self.new }
     {
@@ -244,7 +244,7 @@ impl Search {
         Ok(LineKind::Subscription)
     }
 
-    // A client unsubscribes, if it is connected. It takes no memory.
+    // A client unsubscribes, if it is connected.
     fn unsubscribe(&mut self, client: &str, filter: &str)
         ensures { (list : AccessList) → Applies list (Some (Unsubscribe client.now filter.now))
             self.old self.new }

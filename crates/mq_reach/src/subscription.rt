@@ -10,7 +10,7 @@ pub struct Subscription {
     pub filter: String,
 }
 
-// One step where it is dropped, and not one for each thing inside.
+// Opaque to callers' proofs: one step, and not one for each field (docs/explanation/gate.md).
 impl Drop for Subscription {
     fn drop(self) {
         let Subscription {

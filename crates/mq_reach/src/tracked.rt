@@ -1,4 +1,4 @@
-//! The subscriptions that are in vain so far.
+//! The subscriptions that can receive nothing so far.
 ghost use Rattle.std.specs.Prelude.{◌≡◌, ◌<◌, ◌++◌, ◌∷◌, [], ℕ, Bool, List, All, length, map};
 ghost use Rattle.std.specs.Prelude.{IfOk, IfErr, OnErr, OnOk, string_bytes, if◌then◌else◌};
 ghost use Rattle.std.specs.BTreeMap.{get_by_text};
@@ -19,12 +19,12 @@ use std::alloc::{AllocError, Global};
 use std::collections::BTreeMap;
 use std::marker::Model;
 
-/// How it is with a subscription that was in vain as it was made.
+/// How it is with a subscription that could receive nothing as it was made.
 #[derive(Clone, Copy, Debug, PartialEq, Eq)]
 pub(crate) enum State {
-    /// Its client's session keeps it, and it is in vain so far.
+    /// Its client's session keeps it, and it can receive nothing so far.
     Open,
-    /// The session doesn't keep it any more, and it was in vain to the end.
+    /// The session doesn't keep it any more, and it could receive nothing to the end.
     Closed,
     /// Its client came back under a user name by which it may read what the filter matches.
     Reached,
@@ -35,7 +35,7 @@ pub(crate) struct Entry {
     state: State,
 }
 
-// One step where it is dropped, and not one for each thing inside.
+// Opaque to callers' proofs: one step, and not one for each field (docs/explanation/gate.md).
 impl Drop for Entry {
     fn drop(self) {
         let Entry {
@@ -56,7 +56,7 @@ impl Entry {
         }
     }
 
-    // Asks whether it is in vain under this user name too, or under none.
+    // Asks whether it can receive nothing under this user name too, or under none.
     fn ask(&mut self, alloc: Global, list: &Reach, user: Option<&str>) -> Result<(), SearchFault>
         ensures ok { OnOk result (IsAsked list.now (option_copied user.entry)
             (entry_view self.old) (entry_view self.new)) }
@@ -70,7 +70,7 @@ impl Entry {
         Ok(())
     }
 
-    // The subscription, if it is in vain.
+    // The subscription, if it can receive nothing.
     fn told(self) -> Option<Subscription>
         ensures { option_map subscription_view result ≡ told_of (entry_view self) }
     {
@@ -116,7 +116,7 @@ fn close_at(entries: &mut [Entry], places: &[usize], filter: Option<&str>)
     }
 }
 
-// Asks whether the subscriptions at these places are in vain under this user name too, or under none.
+// Asks whether the subscriptions at these places can receive nothing under this user name too, or under none.
 fn ask_at(
     entries: &mut [Entry],
     places: &[usize],
@@ -161,14 +161,14 @@ fn keep_open(entries: &[Entry], places: &mut Vec<usize>)
     places.retain(|place| is_open_at(entries, *place));
 }
 
-/// The subscriptions that were in vain as they were made, in the order of their lines, and by client id the places of those
-/// that are open.
+/// The subscriptions that could receive nothing as they were made, in the order of their lines, and
+/// by client id the places of those that are open.
 pub(crate) struct Tracked {
     entries: Vec<Entry>,
     open: BTreeMap<String, Vec<usize>>,
 }
 
-// One step where it is dropped, and not one for each thing inside.
+// Opaque to callers' proofs: one step, and not one for each field (docs/explanation/gate.md).
 impl Drop for Tracked {
     fn drop(self) {
         let Tracked {
@@ -217,7 +217,7 @@ impl Tracked {
         Ok(())
     }
 
-    /// The client's session doesn't keep its subscription to this filter any more, if it has one. It takes no memory.
+    /// The client's session doesn't keep its subscription to this filter any more, if it has one.
     pub fn close(&mut self, client: &str, filter: &str)
         ensures { self.new ≡ map (closed_one client.now filter.now) self.old }
     {
@@ -228,7 +228,7 @@ impl Tracked {
         keep_open(&self.entries, places);
     }
 
-    /// The client's session keeps none of its subscriptions any more. It takes no memory.
+    /// The client's session keeps none of its subscriptions any more.
     pub fn close_all(&mut self, client: &str)
         ensures { self.new ≡ map (closed_all client.now) self.old }
     {
@@ -259,7 +259,7 @@ impl Tracked {
         asked
     }
 
-    /// Those that are in vain, in the order of their lines.
+    /// Those that can receive nothing, in the order of their lines.
     pub fn vain(self, alloc: Global) -> Result<Vec<Subscription>, AllocError>
         ensures { IfOk result (λ vain. subscription_views vain.items ≡ vain_of self) }
     {

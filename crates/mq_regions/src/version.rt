@@ -135,7 +135,7 @@ fn named_rows(
 }
 
 // The rows of a `pattern` row. One stands for all clients, and leaves `%u` where it stands: it is right for each user
-// name that is no level of its own of the filters. There are others for those that are.
+// name that is not a level of its own of the filters. There are others for those that are.
 fn pattern_rows(alloc: Global, asked: &Asked, row: &Row) -> Result<Vec<Row>, MeetFault>
     requires asked { IsAsked asked.now.kind.now asked.now.client.now }
     requires owner { is_everyones (owner_view row.now.owner) ≡ true }

@@ -27,7 +27,7 @@ pub struct Rename {
     places: Vec<usize>,
 }
 
-// One step where it is dropped, and not one for each thing inside.
+// Opaque to callers' proofs: one step, and not one for each field (docs/explanation/gate.md).
 impl Drop for Rename {
     fn drop(self) {
         let Rename {
@@ -131,7 +131,7 @@ impl Rename {
         matches(&self.left, name)
     }
 
-    /// The new name of a topic. None where the topic isn't renamed, and where the text is no topic name: it is empty,
+    /// The new name of a topic. None where the topic isn't renamed, and where the text is not a topic name: it is empty,
     /// or has more than 65,535 bytes or 200 levels (MQTT 5.0, section 4.7.3; the limit of 200 levels is our own).
     pub fn new_name(&self, alloc: Global, name: &TopicName) -> Result<Option<TopicName>, AllocError>
         ensures { IfOk result (λ found. found ≡ new_name self.now name.now) }
@@ -163,8 +163,9 @@ impl Rename {
         meet(alloc, &self.left, filter)
     }
 
-    /// The filter that matches the topics whose new names this one matches; none only where there is no such topic. It
-    /// may match a topic that the rule gives no new name, since the text is no topic name, but none that isn't renamed.
+    /// The filter that matches the topics whose new names this one matches; none only where there
+    /// is no such topic. It may match a topic that the rule gives no new name, since the text is
+    /// not a topic name, but none that isn't renamed.
     pub fn back(
         &self,
         alloc: Global,

@@ -31,15 +31,15 @@ use std::alloc::{AllocError, Global};
 use std::marker::Model;
 use stored::Stored;
 
-/// One message for a topic, each with a deadline or none. It is seen as the list of the messages by topic in level order,
-/// with the keys of the tree and the pairs of the index.
+/// One message for a topic, each with a deadline or none. It is seen as the list of the messages by
+/// topic in level order, with the keys of the tree and the pairs of the index.
 pub struct Retained {
     alloc: Global,
     tree: Messages,
     deadlines: Deadlines,
 }
 
-// One step where it is dropped, and not one for each thing inside.
+// Opaque to callers' proofs: one step, and not one for each field (docs/explanation/gate.md).
 impl Drop for Retained {
     fn drop(self) {
         let Retained {
@@ -76,8 +76,8 @@ impl Retained {
         }
     }
 
-    /// Takes in a message that is published: with RETAIN it takes the place of the older one of its topic, or only removes
-    /// that.
+    /// Takes in a message that is published: with RETAIN it takes the place of the older one of its
+    /// topic, or only removes that.
     pub fn publish(&mut self, message: &Message) -> Result<(), AllocError>
         ensures ok { OnOk result ((moment : ℕ) → message.now.deadline
             ≡ deadline_of moment message.now.expiry
@@ -98,7 +98,7 @@ impl Retained {
         self.store(message)
     }
 
-    /// Removes each message whose deadline is at the moment or before it, each at one step. It takes no memory.
+    /// Removes each message whose deadline is at the moment or before it, each at one step.
     pub fn advance(&mut self, moment: u64, steps: &mut Steps)
         ensures rest { self.new.messages ≡ without_expired moment self.old.messages }
         ensures filed { AreFiled self.new }
@@ -109,7 +109,7 @@ impl Retained {
         }
     }
 
-    /// Whether the message would be stored for another topic, where as many are stored as may be. It takes no memory.
+    /// Whether the message would be stored for another topic, where as many are stored as may be.
     pub fn is_full(&self, limit: Option<u32>, message: &Message) -> bool
         ensures { result ≡ is_full limit self.now.messages (message_of message.now) }
     {
@@ -139,14 +139,14 @@ impl Retained {
         Ok(copies)
     }
 
-    /// How many messages there are, at most `u64::MAX`. It takes no memory.
+    /// How many messages there are, at most `u64::MAX`.
     pub fn len(&self) -> u64
         ensures { result ≡ capped (length self.now.messages) }
     {
         self.tree.len()
     }
 
-    /// How many nodes the tree keeps, at most `u64::MAX`. It takes no memory.
+    /// How many nodes the tree keeps, at most `u64::MAX`.
     pub fn nodes(&self) -> u64
         ensures { result ≡ capped (length (prefixes self.now.keys)) }
     {
@@ -166,8 +166,9 @@ impl Retained {
         self.tree.get(topic)?.deadline
     }
 
-    // Stores a message, in place of an older one of its topic. What takes memory comes first, but for the tree's entry: where
-    // that is refused the topic had none, and the new deadline is removed again.
+    // Stores a message, in place of an older one of its topic. What takes memory comes first, but
+    // for the tree's entry: where that is refused the topic had none, and the new deadline is
+    // removed again.
     fn store(&mut self, message: &Message) -> Result<(), AllocError>
         ensures ok { OnOk result (self.new.messages
             ≡ with_row retained_cmp (stored_until message.now.deadline (message_of message.now))

@@ -1,5 +1,7 @@
-//! The router: sessions, subscriptions, access, delivery and retained messages of MQTT 5, as one call that answers a command
-//! at a time.
+//! The router: sessions, subscriptions, access, delivery and retained messages of MQTT 5, as one
+//! call that answers a command at a time.
+//!
+//! A call takes memory only if its result can say that there was none.
 #![tactic(auto)]
 
 mod delivery;

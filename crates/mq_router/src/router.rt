@@ -44,8 +44,8 @@ use std::alloc::{AllocError, Global};
 use std::marker::Model;
 use std::rc::RcStr;
 
-/// A clock, sessions, subscriptions, retained messages and an access list, or none, within limits. It keeps the allocator
-/// that it was made with.
+/// A clock, sessions, subscriptions, retained messages and an access list, or none, within limits.
+/// It keeps the allocator that it was made with.
 pub struct Router {
     alloc: Global,
     limits: Limits,
@@ -57,7 +57,7 @@ pub struct Router {
     retained: Retained,
 }
 
-// One step where it is dropped, and not one for each thing inside.
+// Opaque to callers' proofs: one step, and not one for each field (docs/explanation/gate.md).
 impl Drop for Router {
     fn drop(self) {
         let Router {
@@ -89,22 +89,22 @@ impl Model for Router {
 }
 
 impl Router {
-    /// A router without sessions and without an access list, within the limits of `Limits::new`: everything is allowed. It
-    /// takes no memory.
+    /// A router without sessions and without an access list, within the limits of `Limits::new`:
+    /// everything is allowed. It takes no memory.
     pub fn new(alloc: Global) -> Router
         ensures { StandsFor result empty_world }
     {
         Router::with_limits(alloc, None, Limits::new())
     }
 
-    /// A router without sessions, with an access list, within the limits of `Limits::new`. It takes no memory.
+    /// A router without sessions, with an access list, within the limits of `Limits::new`.
     pub fn with_acl(alloc: Global, acl: Acl) -> Router
         ensures { StandsFor result (fresh_world (Some acl)) }
     {
         Router::with_limits(alloc, Some(acl), Limits::new())
     }
 
-    /// A router without sessions, with an access list or without one, within these limits. It takes no memory.
+    /// A router without sessions, with an access list or without one, within these limits.
     pub fn with_limits(alloc: Global, acl: Option<Acl>, limits: Limits) -> Router
         ensures { StandsFor result (within (limits_of limits) (fresh_world acl)) }
     {
@@ -350,8 +350,8 @@ impl Router {
         self.deliver(&message, steps)
     }
 
-    // All copies are made before anything changes; then the message is stored, or nothing changes; the turns and the copies
-    // that begin to wait, which cannot fail, come last.
+    // All copies are made before anything changes; then the message is stored, or nothing changes;
+    // the turns and the copies that begin to wait, which cannot fail, come last.
     fn deliver(&mut self, message: &Message, steps: &mut Steps) -> Result<Answer, Refusal>
         requires value { message.now.deadline ≡ deadline_of self.old.moment message.now.expiry }
         requires near { IfSome message.now.deadline

@@ -27,7 +27,7 @@ pub struct Progress {
     text: Vec<u8>,
 }
 
-// One step where it is dropped, and not one for each thing inside.
+// Opaque to callers' proofs: one step, and not one for each field (docs/explanation/gate.md).
 impl Drop for Progress {
     fn drop(self) {
         let Progress {

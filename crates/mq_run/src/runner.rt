@@ -122,9 +122,10 @@ fn answer_all<R: Source, W: Sink>(
     Ok(progress.summary)
 }
 
-/// Runs a script: each line that is not blank is answered, and written, before the next one is applied, and at the end
-/// the writer is flushed. Memory is that of the router, of one line and of its answer. Any error ends the run. Of a script
-/// longer than its limit the lines that end within it are answered, and then the fault is that it is too long.
+/// Runs a script: each line that is not blank is answered, and written, before the next one is
+/// applied, and at the end the writer is flushed. Memory is that of the router, of one line and of
+/// its answer. Any error ends the run. Of a script longer than its limit the lines that end within
+/// it are answered, and then the fault is that it is too long.
 pub fn run_with<R: Source, W: Sink>(
     alloc: Global,
     router: Router,
@@ -132,8 +133,8 @@ pub fn run_with<R: Source, W: Sink>(
     reader: &mut R,
     writer: &mut W,
 ) -> Result<Summary, RunFault>
-    // Where the devices tell their bytes and don't fail, the script isn't too long and memory suffices, all of the
-    // script is answered, and nothing else is written.
+    // Where the bytes of the devices are known and they don't fail, the script isn't too long and
+    // memory suffices, all of the script is answered, and nothing else is written.
     ensures headline { (w : World) → StandsFor router w → AnswersWhole options.limit w result
         (watch R.to_come R.failures reader.old reader.new)
         (watch W.taken W.failures writer.old writer.new) }
@@ -146,8 +147,8 @@ pub fn run_with<R: Source, W: Sink>(
     // After Ok the writer has handed on all that it took.
     ensures flushed { OnOk result (W.flushed writer.new ≡ W.taken writer.new) }
 
-    // Any read may fail, and where one does in an unbuffered run, all that was written has been handed on: it was, before
-    // that read.
+    // Any read may fail, and where one does in an unbuffered run, all that was written has been
+    // handed on: it was, before that read.
     ensures unbuffered { IsTrue options.unbuffered → R.failures reader.new ≢ R.failures reader.old
         → W.flushed writer.new ≡ W.taken writer.new }
 {

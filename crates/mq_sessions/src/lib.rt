@@ -1,4 +1,6 @@
 //! The clients of a broker: their sessions, and the copies that wait for those that are away.
+//!
+//! A call takes memory only if its result can say that there was none.
 #![tactic(auto)]
 
 mod sessions;

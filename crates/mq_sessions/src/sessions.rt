@@ -40,7 +40,7 @@ pub struct Sessions {
     ends: Ends,
 }
 
-// One step where it is dropped, and not one for each thing inside.
+// Opaque to callers' proofs: one step, and not one for each field (docs/explanation/gate.md).
 impl Drop for Sessions {
     fn drop(self) {
         let Sessions { by_id: _, ends: _ } = self;
@@ -139,7 +139,8 @@ impl Sessions {
         self.by_id.get(id)
     }
 
-    /// The copies that waited for a client that connects, with what is left of their intervals, if it resumes its session.
+    /// The copies that waited for a client that connects, with what is left of their intervals, if
+    /// it resumes its session.
     pub fn resumed_copies(
         &self,
         alloc: Global,
@@ -185,7 +186,7 @@ impl Sessions {
         Ok(())
     }
 
-    /// The connection of a client ends, if there is one, and its session stays. It takes no memory.
+    /// The connection of a client ends, if there is one, and its session stays.
     pub fn disconnect(&mut self, id: &str, clock: Clock)
         ensures left { is_connected self.old id.now ≡ true
             → self.new ≡ map (left_by clock.moment id.now) self.old }
@@ -207,7 +208,7 @@ impl Sessions {
         drop_stale_ends(&mut self.ends, &self.by_id);
     }
 
-    /// Takes out a session that has ended, if there is one, and gives the id of its client. It takes no memory.
+    /// Takes out a session that has ended, if there is one, and gives the id of its client.
     pub fn take_ended(&mut self, moment: u64) -> Option<RcStr>
         ensures none { IfNone result (list_any (has_ended moment) self.old ≡ false) }
         ensures same { IfNone result (self.new ≡ self.old) }
@@ -239,7 +240,7 @@ impl Sessions {
         session.queue(limit, queued_copy.copies);
     }
 
-    /// The copies begin to wait, each where fewer wait than may. It takes no memory.
+    /// The copies begin to wait, each where fewer wait than may.
     pub fn queue_all(&mut self, limit: u32, all: Vec<QueuedCopy>)
         ensures new { self.new ≡ queue_all limit (map queue_item_of all.items) self.old }
         ensures ordered { IsStrictlySortedBy session_cmp self.old }

@@ -1,4 +1,6 @@
 //! The subscriptions of all clients, by filter with the groups, and by client.
+//!
+//! A call takes memory only if its result can say that there was none.
 #![tactic(auto)]
 
 mod subscriptions;

@@ -47,7 +47,7 @@ pub struct Subscriptions {
     lists: ClientLists,
 }
 
-// One step where it is dropped, and not one for each thing inside.
+// Opaque to callers' proofs: one step, and not one for each field (docs/explanation/gate.md).
 impl Drop for Subscriptions {
     fn drop(self) {
         let Subscriptions {
@@ -141,7 +141,7 @@ impl Subscriptions {
         }
     }
 
-    /// Takes the subscription with this text out, and says whether there was one. It takes no memory.
+    /// Takes the subscription with this text out, and says whether there was one.
     pub fn remove(&mut self, client: &str, text: &str) -> bool
         requires { IsTrue (is_subscription text.now) }
         ensures existed { result ≡ list_any (has_asked client.now text.now) self.old.rows }
@@ -154,7 +154,7 @@ impl Subscriptions {
         existed
     }
 
-    /// Takes a client's subscriptions out, and no other is looked at. It takes no memory.
+    /// Takes a client's subscriptions out, and no other is looked at.
     pub fn remove_client(&mut self, client: &str)
         ensures rows { self.new.rows ≡ filter (λ s. not (same_text s.client client.now))
             self.old.rows }
@@ -181,7 +181,7 @@ impl Subscriptions {
         Ok(self.tree.for_name(name, steps)?)
     }
 
-    /// A member of a group goes last. It takes no memory.
+    /// A member of a group goes last.
     pub fn serve(&mut self, share: &str, topic_filter: &TopicFilter, client: &str)
         ensures rows { SameInTurn self.new.rows
             (put_last (has_key client.now (Some share.now) topic_filter.now) self.old.rows) }
@@ -193,7 +193,7 @@ impl Subscriptions {
         at.serve(share, client);
     }
 
-    /// Each member that was served goes last in its group. It takes no memory.
+    /// Each member that was served goes last in its group.
     pub fn serve_all(&mut self, served: &[Turn])
         ensures rows { SameInTurn self.new.rows
             (all_turned (map turn_of served.now) self.old.rows) }
@@ -204,14 +204,14 @@ impl Subscriptions {
         }
     }
 
-    /// How many subscriptions there are, at most `u64::MAX`, by a walk over the tree. It takes no memory.
+    /// How many subscriptions there are, at most `u64::MAX`, by a walk over the tree.
     pub fn len(&self) -> u64
         ensures { result ≡ capped (length self.now.rows) }
     {
         self.tree.total()
     }
 
-    /// How many nodes the tree keeps, at most `u64::MAX`. It takes no memory.
+    /// How many nodes the tree keeps, at most `u64::MAX`.
     pub fn nodes(&self) -> u64
         ensures { result ≡ capped (length (prefixes self.now.keys)) }
     {

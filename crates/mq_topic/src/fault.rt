@@ -1,4 +1,4 @@
-/// Why a text is no topic name, no topic filter or no subscription text: the first of these that holds
+/// Why a text is not a topic name, no topic filter or no subscription text: the first of these that holds
 /// (MQTT 5.0, sections 4.7.1 to 4.7.3 and 4.8.2; the limit of 200 levels is our own).
 #[derive(Clone, Copy, Debug, PartialEq, Eq)]
 pub enum TopicFault {
@@ -8,7 +8,7 @@ pub enum TopicFault {
     TooLong,
     /// The text holds U+0000.
     Nul,
-    /// A wildcard stands in a name, or is no whole level of a filter, or `#` is not the last level.
+    /// A wildcard stands in a name, or is not a whole level of a filter, or `#` is not the last level.
     Wildcard,
     /// There are more than 200 levels.
     Levels,

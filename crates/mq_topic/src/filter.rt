@@ -14,14 +14,17 @@ use std::alloc::{AllocError, Global};
 use std::cmp::Ordering;
 use std::marker::Model;
 
-/// A topic filter: 1 to 65,535 bytes without U+0000, at most 200 levels, each wildcard a whole level and `#`
-/// the last one (MQTT 5.0, sections 4.7.1 and 4.7.3). It takes its memory from the allocator that it was parsed with.
+/// A topic filter: 1 to 65,535 bytes without U+0000, at most 200 levels, each wildcard a whole level
+/// and `#` the last one (MQTT 5.0, sections 4.7.1 and 4.7.3). It takes its memory from the allocator
+/// that it was parsed with.
+///
+/// Filters are `#`, `a/#`, `+/b`, `/a` and `a//b`; an empty text, `a#`, `a/#/b` and `a+/b` are not.
 #[derive(Debug)]
 pub struct TopicFilter {
     text: String,
 }
 
-// One step where it is dropped, and not one for each thing inside.
+// Opaque to callers' proofs: one step, and not one for each field (docs/explanation/gate.md).
 impl Drop for TopicFilter {
     fn drop(self) {
         let TopicFilter { text: _ } = self;

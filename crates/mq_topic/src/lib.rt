@@ -1,5 +1,7 @@
 //! Topic names, topic filters and subscription texts of MQTT 5, and which filters match which names
 //! (MQTT 5.0, sections 4.7 and 4.8.2).
+//!
+//! A call takes memory only if its result can say that there was none.
 #![tactic(auto)]
 
 mod fault;

@@ -21,7 +21,7 @@ pub struct TopicName {
     text: String,
 }
 
-// One step where it is dropped, and not one for each thing inside.
+// Opaque to callers' proofs: one step, and not one for each field (docs/explanation/gate.md).
 impl Drop for TopicName {
     fn drop(self) {
         let TopicName { text: _ } = self;

@@ -54,14 +54,14 @@ impl SubFilter {
         Ok(SubFilter { share, filter })
     }
 
-    /// Whether the text is one that `parse` takes. It takes no memory.
+    /// Whether the text is one that `parse` takes.
     pub fn is_valid(text: &str) -> bool
         ensures { result ≡ is_subscription text.now }
     {
         subscription_fault(text).is_none()
     }
 
-    /// The share name and the filter of a valid text, lent out of it. It takes no memory.
+    /// The share name and the filter of a valid text, lent out of it.
     #[tactic(auto, using(crate::proofs::TextLemmas::filter_part_is_filter))]
     pub fn split(text: &str) -> (Option<&str>, FilterText<'_>)
         requires { IsTrue (is_subscription text.now) }

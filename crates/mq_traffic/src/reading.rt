@@ -41,7 +41,7 @@ fn without_line_feed(line: &[u8]) -> &[u8] {
     line.strip_suffix(b"\n").unwrap_or(line)
 }
 
-/// Reads a script: its publishes, by their topics. A line that is no command is passed over.
+/// Reads a script: its publishes, by their topics. A line that is not a command is skipped.
 pub fn read_traffic<R: Read + Drop>(alloc: Global, reader: R) -> Result<Traffic, TrafficFault> {
     let mut reader = BufReader::new(alloc, reader.take(SCRIPT_LIMIT + 1))?;
     let mut traffic = Traffic::new(alloc);

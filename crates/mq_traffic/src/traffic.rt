@@ -10,8 +10,8 @@ use std::collections::BTreeMap;
 /// So many bytes of the first line are kept.
 const FRONT: usize = 64;
 
-/// The topics that the publishes of a script are to, with how many are to each. Those to a text that is no topic name are
-/// left out: a broker refuses them.
+/// The topics that the publishes of a script are to, with how many are to each. Those to a text
+/// that is not a topic name are left out: a broker refuses them.
 pub struct Traffic {
     counts: BTreeMap<String, u64>,
     lines: u64,
@@ -19,7 +19,7 @@ pub struct Traffic {
     front: Vec<u8>,
 }
 
-// One step where it is dropped, and not one for each thing inside.
+// Opaque to callers' proofs: one step, and not one for each field (docs/explanation/gate.md).
 impl Drop for Traffic {
     fn drop(self) {
         let Traffic {

@@ -6,7 +6,7 @@ pub trait Counted {
     /// How many.
     ghost count_of: { Self → ℕ };
 
-    /// How many, at most `u64::MAX`. It takes no memory.
+    /// How many, at most `u64::MAX`.
     fn count(&self) -> u64
         ensures { result ≡ capped (count_of self.now) };
 }

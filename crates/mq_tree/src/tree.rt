@@ -29,7 +29,7 @@ pub struct LevelTree<V> {
     root: Node<V>,
 }
 
-// One step where it is dropped, and not one for each thing inside.
+// Opaque to callers' proofs: one step, and not one for each field (docs/explanation/gate.md).
 impl<V: Drop> Drop for LevelTree<V> {
     fn drop(self) {
         let LevelTree { alloc: _, root: _ } = self;
@@ -58,14 +58,14 @@ impl<V> LevelTree<V> {
         }
     }
 
-    /// The value at the key. It takes no memory.
+    /// The value at the key.
     pub fn get<K: LevelText>(&self, key: &K) -> Option<&V>
         ensures { option_copied result ≡ lookup (is_key (levels (K.text_of key.now))) self.now }
     {
         self.root.get(Some(key.text()))
     }
 
-    /// The value at the key, lent so that it can be written. It takes no memory.
+    /// The value at the key, lent so that it can be written.
     pub fn get_mut<K: LevelText>(&mut self, key: &K) -> Option<&mut V>
         ensures* writes_back { sem 𝓛
             (LendsAt V.row self.entry (levels (K.text_of key.now)) result) }
@@ -91,7 +91,7 @@ impl<V> LevelTree<V> {
         self.root.put(self.alloc, Some(key.text()), value)
     }
 
-    /// Takes out the value at the key, and each node that no key leads to any more. It takes no memory.
+    /// Takes out the value at the key, and each node that no key leads to any more.
     pub fn take<K: LevelText>(&mut self, key: &K) -> Option<V>
     where
         V: Drop,
@@ -101,7 +101,7 @@ impl<V> LevelTree<V> {
         self.root.take(Some(key.text()))
     }
 
-    /// How many keys there are, at most `u64::MAX`. It takes no memory.
+    /// How many keys there are, at most `u64::MAX`.
     pub fn len(&self) -> u64
         ensures count { result ≡ capped (length self.now) }
         ensures ordered { AreInOrder self.now }
@@ -150,7 +150,7 @@ impl<V> LevelTree<V> {
 }
 
 impl<V: Counted> LevelTree<V> {
-    /// The numbers of all values together, at most `u64::MAX`, by a walk over the tree. It takes no memory.
+    /// The numbers of all values together, at most `u64::MAX`, by a walk over the tree.
     pub fn total(&self) -> u64
         ensures { result ≡ capped (sum_by (λ e. V.count_of e.1) self.now) }
     {

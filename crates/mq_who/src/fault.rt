@@ -17,8 +17,9 @@ pub enum WhoFault {
     Line(u64),
     /// By mosquitto's rules the `pattern` row with this line has a mark that is a part of a level.
     Mark(u64),
-    /// The steps don't suffice: when they were spent, it was to be known what the row with this line allows, or the filter
-    /// itself where it is 0, which has to be seen against so many others.
+    /// The steps don't suffice: when they were spent, it was to be known what the row with this
+    /// line allows, or the filter itself where it is 0, which has to be seen against so many
+    /// others.
     GaveUp(u64, u64),
 }
 

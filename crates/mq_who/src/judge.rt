@@ -253,8 +253,8 @@ fn answer<'p>(
 /// Whether by these rules the list keeps to the claim. By mosquitto's rules a claim isn't about clients whose id or user
 /// name holds `/`, `+` or `#`; of one about such a user alone it is said that nothing is asked.
 ///
-/// So many steps are given to a comparison of the list with one of one row. Where they don't suffice the question is given
-/// up.
+/// So many steps are given to a comparison of the list with one of one row. Where they don't
+/// suffice the question is given up.
 pub fn judge_claim<'p>(
     alloc: Global,
     rules: Rules,

@@ -31,8 +31,8 @@ fn access_of(allows: bool) -> Access
     }
 }
 
-/// A list of one row: it denies what the filter matches, where what another allows of that is asked, and grants it, where
-/// what the other doesn't allow is.
+/// A list of one row: it denies what the filter matches, where what another allows of that is
+/// asked, and grants it, where what the other doesn't allow is.
 pub(crate) fn made(
     alloc: Global,
     allows: bool,

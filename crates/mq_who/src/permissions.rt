@@ -15,8 +15,9 @@ use mq_findings::{Difference, Reason, compare};
 use mq_topic::{LevelText, TopicFilter};
 use std::alloc::{AllocError, Global};
 
-/// What clients may and may not read and write of the topics that a filter matches. Of what the same line decides for the
-/// same class and direction, one client and topic is listed, and one more where topics with `$` in front are among others.
+/// What clients may and may not read and write of the topics that a filter matches. Of what the
+/// same line decides for the same class and direction, one client and topic is listed, and one more
+/// where topics with `$` in front are among others.
 #[derive(Debug)]
 pub struct Permissions {
     /// What the list allows. `old_reason` is the line that grants it; the new list is one that denies it.
@@ -25,7 +26,7 @@ pub struct Permissions {
     pub refused: Vec<Difference>,
 }
 
-// One step where it is dropped, and not one for each thing inside.
+// Opaque to callers' proofs: one step, and not one for each field (docs/explanation/gate.md).
 impl Drop for Permissions {
     fn drop(self) {
         let Permissions {
@@ -96,13 +97,13 @@ pub(crate) fn listed(
     changes(alloc, rules, rows, &made, steps)
 }
 
-/// Who may, by these rules, read or write the topics that a filter matches, and who may not: the clients without a user
-/// name, those of each user name that the list names, and those of all others. `%c` and `%u`, as levels of the filter, are
-/// the client's own id and user name. By mosquitto's rules it is not about clients whose id or user name holds `/`, `+` or
-/// `#`.
+/// Who may, by these rules, read or write the topics that a filter matches, and who may not: the
+/// clients without a user name, those of each user name that the list names, and those of all
+/// others. `%c` and `%u`, as levels of the filter, are the client's own id and user name. By
+/// mosquitto's rules it is not about clients whose id or user name holds `/`, `+` or `#`.
 ///
-/// So many steps are given to each of two comparisons of the list with one of one row. Where they don't suffice the question
-/// is given up, so that an answer is always the whole one.
+/// So many steps are given to each of two comparisons of the list with one of one row. Where they
+/// don't suffice the question is given up, so that an answer is always the whole one.
 pub fn who_may(
     alloc: Global,
     rules: Rules,

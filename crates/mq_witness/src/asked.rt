@@ -49,7 +49,7 @@ pub struct Asked<'a> {
     users: Literals<'a>,
 }
 
-// One step where it is dropped, and not one for each thing inside.
+// Opaque to callers' proofs: one step, and not one for each field (docs/explanation/gate.md).
 impl Drop for Asked<'_> {
     fn drop(self) {
         let Asked {
@@ -122,9 +122,10 @@ fn has_level(clients: Clients) -> bool
 }
 
 impl<'a> Asked<'a> {
-    /// Takes the rows of lists, which decide by these rules. A row with a level or a user name of more than 300 bytes is
-    /// told by the place of its list and by its line: a topic name made of such levels could be too long. By mosquitto's
-    /// rules so is a `pattern` row with a mark that is a part of a level.
+    /// Takes the rows of lists, which decide by these rules. A row with a level or a user name of
+    /// more than 300 bytes is named by the place of its list and by its line: a topic name made of
+    /// such levels could be too long. By mosquitto's rules so is a `pattern` row with a mark that
+    /// is a part of a level.
     pub fn of(alloc: Global, rules: Rules, lists: Vec<&'a [Row]>) -> Result<Asked<'a>, ListFault>
         ensures rules { IfOk result (λ asked. asked.rules ≡ rules) }
         ensures rows { IfOk result (λ asked. asked.rows ≡ all_rows lists.entry.items) }
@@ -174,10 +175,10 @@ impl<'a> Asked<'a> {
         self.texts.has(text) || self.dollar.has(text)
     }
 
-    /// A client and a topic that each row of `must` concerns and no row of `cover` does, or that there is none: of all
-    /// client ids that a broker can have, all user names that are asked about, and all topic names. Where a text of the
-    /// answer is named by no row it is made up, and stands for any other that no row names. The only error is that memory
-    /// is refused.
+    /// A client and a topic that each row of `must` concerns and no row of `cover` does, or that
+    /// there is none: of all client ids that a broker can have, all user names that are asked
+    /// about, and all topic names. Where a text of the answer is named by no row it is made up, and
+    /// stands for any other that no row names. The only error is that memory is refused.
     pub fn find<'q>(
         &'q self,
         alloc: Global,
@@ -202,8 +203,8 @@ impl<'a> Asked<'a> {
         self.find_in(alloc, false, true, clients, must, cover)
     }
 
-    /// The same of topics that begin with `$`, or of the others, where a text in the place of a mark counts for the rule on
-    /// `$`, or doesn't.
+    /// The same of topics that begin with `$`, or of the others, where a text in the place of a
+    /// mark counts for the rule on `$`, or doesn't.
     fn find_in<'q>(
         &'q self,
         alloc: Global,
@@ -252,9 +253,9 @@ impl<'a> Asked<'a> {
         self.patterns && !has_level(clients)
     }
 
-    /// A client and a topic that begins with `$`, or doesn't, that each row of `must` concerns by the rules of the lists and
-    /// no row of `cover` does; or that there is none: of all client ids and user names that `is_asked_of` says, and all
-    /// topic names.
+    /// A client and a topic that begins with `$`, or doesn't, that each row of `must` concerns by
+    /// the rules of the lists and no row of `cover` does; or that there is none: of all client ids
+    /// and user names that `is_asked_of` says, and all topic names.
     pub fn find_kind<'q>(
         &'q self,
         alloc: Global,

@@ -8,8 +8,8 @@ pub enum ListFault {
     /// The list at the first number, counted from 0, has a row with a level, or a user name, of more than 300 bytes,
     /// and its line is the second: a topic name made of such levels could be too long.
     Line(usize, u64),
-    /// By mosquitto's rules the list at the first number has a `pattern` row with a mark that is a part of a level, and its
-    /// line is the second.
+    /// By mosquitto's rules the list at the first number has a `pattern` row with a mark that is a
+    /// part of a level, and its line is the second.
     Mark(usize, u64),
 }
 
@@ -24,7 +24,7 @@ impl From<AllocError> for ListFault {
     }
 }
 
-/// Why no topic is told of one client. A topic name made of levels of more than 300 bytes could be too long.
+/// Why no topic is known of one client. A topic name made of levels of more than 300 bytes could be too long.
 #[derive(Clone, Copy, Debug, PartialEq, Eq)]
 pub enum LimitFault {
     /// There was no memory.

@@ -28,8 +28,8 @@ pub(crate) struct OneClient<'a> {
 }
 
 impl OneClient<'_> {
-    /// A topic that begins with `$`, or doesn't, that each of the first rows concerns and none of the others does; or that
-    /// there is none.
+    /// A topic that begins with `$`, or doesn't, that each of the first rows concerns and none of
+    /// the others does; or that there is none.
     pub fn topic(&self, alloc: Global, dollar: bool) -> Result<Option<TopicName>, AllocError>
         ensures none { IfOk result (λ found. IfNone found ((name : List ℕ)
             → is_name name ≡ true → begins_with_dollar name ≡ dollar

@@ -51,7 +51,7 @@ fn has_whole_marks(row: &Row) -> bool
     !is_pattern(&row.owner) || mq_acl::has_whole_marks(row.filter.text())
 }
 
-// The line of the first row with a mark that is no whole level.
+// The line of the first row with a mark that is not a whole level.
 fn marked_line(rows: &[Row]) -> Option<u64>
     ensures line { result ≡ marked_line rules.Mosquitto rows.now }
     ensures whole { IfNone result (list_all has_whole_marks (row_views rows.now) ≡ true) }
@@ -77,7 +77,7 @@ fn first_marked(lists: &[&[Row]]) -> Option<LongLine>
     None
 }
 
-/// By mosquitto's rules the first row of the lists with a mark that is no whole level.
+/// By mosquitto's rules the first row of the lists with a mark that is not a whole level.
 pub(crate) fn marked(rules: Rules, lists: &[&[Row]]) -> Option<LongLine>
     ensures whole { IfNone result (are_whole rules (all_rows lists.now) ≡ true) }
     ensures some { IfSome result (λ marked.

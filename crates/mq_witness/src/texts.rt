@@ -18,7 +18,7 @@ pub(crate) struct FreshTexts {
     user: String,
 }
 
-// One step where it is dropped, and not one for each thing inside.
+// Opaque to callers' proofs: one step, and not one for each field (docs/explanation/gate.md).
 impl Drop for FreshTexts {
     fn drop(self) {
         let FreshTexts {

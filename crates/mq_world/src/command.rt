@@ -6,8 +6,8 @@ ghost use Rattle.mq_world.specs.Views.{request_of};
 /// A command of a script. Its texts may be any texts: the router tests them.
 #[derive(Debug, Drop)]
 pub enum Command {
-    /// A client connects, with a user name or without one (MQTT 5.0, section 3.1.4). If it is connected, this acts first as
-    /// its disconnect.
+    /// A client connects, with a user name or without one (MQTT 5.0, section 3.1.4). If it is
+    /// connected, this acts first as its disconnect.
     Connect {
         client: String,
         user: Option<String>,
@@ -18,8 +18,8 @@ pub enum Command {
         /// (MQTT 5.0, section 3.1.2.11.2).
         session_expiry: u32,
     },
-    /// A client leaves (MQTT 5.0, section 3.14). Its session ends if its Session Expiry Interval is 0; else the client is
-    /// away until the interval is over.
+    /// A client leaves (MQTT 5.0, section 3.14). Its session ends if its Session Expiry Interval is
+    /// 0; else the client is away until the interval is over.
     Disconnect {
         client: String,
     },
@@ -59,7 +59,8 @@ pub enum Command {
     SetAcl {
         text: Option<String>,
     },
-    /// The clock moves. Retained messages whose deadline comes go, and sessions of clients that are away whose end comes.
+    /// The clock moves. Retained messages whose deadline comes go, and sessions of clients that are
+    /// away whose end comes.
     Advance {
         seconds: u64,
     },
@@ -68,7 +69,7 @@ pub enum Command {
 }
 
 impl Command {
-    /// Whether each number is in its range. `Router::apply` wants it.
+    /// Whether each number is in its range. `Router::apply` requires it.
     pub fn is_valid(&self) -> bool
         ensures { result ≡ is_valid (request_of self.now) }
     {

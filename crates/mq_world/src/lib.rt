@@ -1,5 +1,5 @@
-//! What a broker of MQTT 5 is, told by its commands and answers: the definition that the router is proved against. It holds no
-//! algorithm; `Clock` adds and subtracts seconds.
+//! What a broker of MQTT 5 is, said by its commands and answers: the definition that the router is
+//! proved against. It holds no algorithm; `Clock` adds and subtracts seconds.
 #![tactic(auto)]
 
 mod answer;

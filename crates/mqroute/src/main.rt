@@ -46,7 +46,8 @@ fn room(rt: &HostRuntime) -> usize {
     if rt.stdout().is_terminal() { 0 } else { BUFFER }
 }
 
-// Runs the program, and then writes what is still gathered, whatever its status is: the answers before a fault are shown.
+// Runs the program, and then writes what is still gathered, whatever its status is: the answers
+// before a fault are shown.
 fn run(rt: &HostRuntime, words: &[String]) -> io::Result<u8> {
     let mut input = StdSource::new(rt.stdin());
     let mut out = StdSink::new(BufWriter::with_capacity(rt.alloc(), room(rt), rt.stdout())?);
@@ -59,7 +60,7 @@ fn run(rt: &HostRuntime, words: &[String]) -> io::Result<u8> {
     Ok(status)
 }
 
-// Tells why the program fails, and answers its status. A failed write on standard error is passed over.
+// Says why the program fails, and answers its status. A failed write on standard error is ignored.
 fn complain(rt: &HostRuntime, text: &str, status: u8) -> u8 {
     let _ = rt.stderr().write_all(text.as_bytes());
     status

@@ -31,7 +31,7 @@ fn fault_of(error: io::Error) -> FileFault
     }
 }
 
-// The front of what a reader gives, long enough to tell whether it is too long.
+// The front of what a reader gives, long enough to know whether it is too long.
 fn read_front<R: Read + Drop>(alloc: Global, reader: R) -> Result<Vec<u8>, FileFault>
     ensures ok { IfOk result (λ front. IfSome (R.remaining reader) (λ bytes.
         front.items ≡ take 16777217 bytes)) }

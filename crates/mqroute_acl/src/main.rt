@@ -35,7 +35,7 @@ fn words(rt: &HostRuntime) -> io::Result<Vec<String>> {
     Ok(words)
 }
 
-// Whether a variable of the environment is set, and not empty. One that is no text is.
+// Whether a variable of the environment is set, and not empty. One that is not a text is.
 fn is_set(rt: &HostRuntime, name: &str) -> bool {
     match env::var(rt, name) {
         Ok(value) => !value.is_empty(),
@@ -65,7 +65,7 @@ fn run(rt: &HostRuntime, words: &[String]) -> u8 {
     )
 }
 
-// Tells why the program fails, and answers its status. A failed write on standard error is passed over.
+// Says why the program fails, and answers its status. A failed write on standard error is ignored.
 fn complain(rt: &HostRuntime, text: &str, status: u8) -> u8 {
     let _ = rt.stderr().write_all(text.as_bytes());
     status

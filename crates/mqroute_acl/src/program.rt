@@ -108,7 +108,7 @@ fn answer_why<'a, R: Files, I: Read, W: Write>(
     tell_why(alloc, list, client, topic, may, options, out, notes)
 }
 
-/// Of a file, a filter, those of whom it is told, and a script if one is given.
+/// Of a file, a filter, those of whom it is shown, and a script if one is given.
 fn answer_who<'a, R: Files, I: Read, W: Write>(
     rt: &R,
     alloc: Global,
@@ -207,8 +207,8 @@ fn answer<'a, R: Files, I: Read, W: Write>(
     }
 }
 
-/// Tells a text, or that there was no memory for it, and answers the exit status: the one that is given, or that of want
-/// of memory. A failed write is passed over.
+/// Prints a text, or that there was no memory for it, and answers the exit status: the one that is
+/// given, or that of want of memory. A failed write is ignored.
 fn tell<E: Write>(text: Result<String, AllocError>, status: u8, err: &mut E) -> u8
     ensures { result ≡ (if is_ok text then status else 3) }
 {
@@ -220,7 +220,7 @@ fn tell<E: Write>(text: Result<String, AllocError>, status: u8, err: &mut E) -> 
     status
 }
 
-/// Tells why nothing is answered, and answers the status: 3 too where there is no memory for the text.
+/// Says why nothing is answered, and answers the status: 3 too where there is no memory for the text.
 fn report<E: Write>(alloc: Global, failure: Failure<'_>, err: &mut E) -> u8
     ensures { (result ≡ failure_status failure.entry) ⊎ (result ≡ 3) }
 {
@@ -228,7 +228,7 @@ fn report<E: Write>(alloc: Global, failure: Failure<'_>, err: &mut E) -> u8
     tell(text, failure.status(), err)
 }
 
-/// Writes what is to be noted beside an answer, and answers its status. A failed write is passed over.
+/// Writes what is to be noted beside an answer, and answers its status. A failed write is ignored.
 fn note<E: Write>(notes: String, status: u8, err: &mut E) -> u8
     ensures status { result ≡ status }
     ensures quiet { string_bytes notes ≡ [] → err.new ≡ err.old }
@@ -278,10 +278,11 @@ pub(crate) fn start<R: Files, I: Read, W: Write, E: Write>(
 ) -> u8
     ensures bound { result ≤ 3 }
 
-    // Of words that are understood, a status of 0 or 1 says what is true of texts that the files may have: of standard
-    // input, where it tells its bytes, that is what it holds. They name it once at most. By our own rules nothing is then
-    // told on standard error; where the words name no rules, but by `lint`, of a list with `pattern` lines, or of one that
-    // mosquitto reads otherwise.
+    // Of words that are understood, a status of 0 or 1 says what is true of texts that the files
+    // may have: of standard input, where its bytes are known, that is what it holds. They name it
+    // once at most. By our own rules nothing is then printed on standard error; where the words
+    // name no rules, but by `lint`, of a list with `pattern` lines, or of one that mosquitto reads
+    // otherwise.
     ensures answered { let given = map string_bytes words.now in fault_of mqroute_acl given ≡ []
         → result ≢ 2 → result ≢ 3
         → IsAnswered (rules_given (values_of (subcommand_of mqroute_acl given)))
@@ -289,7 +290,7 @@ pub(crate) fn start<R: Files, I: Read, W: Write, E: Write>(
         (I.remaining input.old) (asked_by (subcommand_of mqroute_acl given)) result
         (err.new ≡ err.old) }
 
-    // Of words that are not understood a fault that they have is told, or that memory ran out.
+    // Of words that are not understood a fault that they have is printed, or that memory ran out.
     ensures usage { let given = map string_bytes words.now in fault_of mqroute_acl given ≢ []
         → (fault : UsageFault) × IsFaultOf given (fault_of mqroute_acl given) fault
         × TellsUsage fault result (W.contents out.old) (W.contents out.new) }
@@ -301,7 +302,7 @@ pub(crate) fn start<R: Files, I: Read, W: Write, E: Write>(
     ensures not_understood { fault_of mqroute_acl (map string_bytes words.now) ≢ []
         → input.new ≡ input.old }
 
-    // At a status of 2 nothing is written, and beside help nothing is told.
+    // At a status of 2 nothing is written, and beside help nothing is printed.
     ensures unread { result ≡ 2 → out.new ≡ out.old }
     ensures quiet { fault_of mqroute_acl (map string_bytes words.now) ≢ [] → result ≢ 2
         → result ≢ 3 → err.new ≡ err.old }

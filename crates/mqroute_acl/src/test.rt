@@ -160,7 +160,8 @@ fn read_all<'t, 'l>(
     Ok(all)
 }
 
-// Notes by mosquitto's rules of whom it isn't known, and by our own where mosquitto decides otherwise by one of the lists.
+// Notes by mosquitto's rules of whom it isn't known, and by our own where mosquitto decides
+// otherwise by one of the lists.
 fn add_notes<'t>(
     alloc: Global,
     notes: &mut String,
@@ -223,7 +224,7 @@ fn outcome_of(verdicts: &[Verdict<'_, '_>]) -> Outcome
     Outcome::Remark
 }
 
-// What is told of the lines, and what it comes to.
+// What is said of the lines, and what it comes to.
 #[derive(Drop)]
 struct Told {
     text: String,
@@ -342,8 +343,9 @@ fn write_junit<'a, R: Files>(
     }
 }
 
-/// Shows which lines of a file of expectations don't hold of the lists in these files; or, where none is given, of those that
-/// it names. Before that it writes the same in JUnit's XML to a file, if one is named.
+/// Shows which lines of a file of expectations don't hold of the lists in these files; or, where
+/// none is given, of those that it names. Before that it writes the same in JUnit's XML to a file,
+/// if one is named.
 pub(crate) fn answer_test<'a, R: Files, I: Read, W: Write>(
     rt: &R,
     alloc: Global,

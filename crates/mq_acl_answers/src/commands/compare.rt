@@ -31,7 +31,7 @@ pub struct Changes {
     pub differences: Vec<Difference>,
 }
 
-// One step where it is dropped, and not one for each thing inside.
+// Opaque to callers' proofs: one step, and not one for each field (docs/explanation/gate.md).
 impl Drop for Changes {
     fn drop(self) {
         let Changes {
@@ -191,9 +191,10 @@ fn answer_text(
     changes_text(alloc, scope, lists.0, lists.1, differences, options.json)
 }
 
-/// Shows where the lists with these texts differ, or what one of them alone allows, if so many steps suffice to know it,
-/// and notes of whom it isn't known, and by our own rules where mosquitto decides otherwise. Where a script is given, its
-/// publishes that each difference is about at most are counted.
+/// Shows where the lists with these texts differ, or what one of them alone allows, if so many
+/// steps suffice to know it, and notes of whom it isn't known, and by our own rules where mosquitto
+/// decides otherwise. Where a script is given, its publishes that each difference is about at most
+/// are counted.
 pub fn tell_changes<'a, W: Write>(
     alloc: Global,
     old: ListText<'a, '_>,

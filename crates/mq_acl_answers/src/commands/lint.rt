@@ -32,7 +32,7 @@ pub struct Remarks {
     pub is_empty: bool,
 }
 
-// One step where it is dropped, and not one for each thing inside.
+// Opaque to callers' proofs: one step, and not one for each field (docs/explanation/gate.md).
 impl Drop for Remarks {
     fn drop(self) {
         let Remarks {
@@ -50,7 +50,7 @@ fn is_fault(kind: RemarkKind) -> bool
     matches!(kind, RemarkKind::Fault(_))
 }
 
-// Whether it is told of more than a line that denies nothing, which may guard.
+// Whether something is said of more than a line that denies nothing, which may guard.
 fn matters(kind: RemarkKind) -> bool
     ensures { result ≡ matters kind }
 {
@@ -106,8 +106,8 @@ fn needless_in<'a>(
     }
 }
 
-/// What by these rules is odd or needless in the list. Where so many steps don't suffice to know it, it is given up: what
-/// is answered is always the whole.
+/// What by these rules is odd or needless in the list. Where so many steps don't suffice to know
+/// it, it is given up: what is answered is always the whole.
 pub fn find_remarks<'a>(
     alloc: Global,
     rules: Rules,
@@ -150,8 +150,9 @@ fn outcome_of(remarks: &Remarks) -> Outcome
     }
 }
 
-/// Adds to an answer what is odd or needless in the list, if so many steps suffice to know it, and notes of whom it isn't
-/// known, and by our own rules where mosquitto decides otherwise or that it allows the same.
+/// Adds to an answer what is odd or needless in the list, if so many steps suffice to know it, and
+/// notes of whom it isn't known, and by our own rules where mosquitto decides otherwise or that it
+/// allows the same.
 pub fn add_lint<'a>(
     alloc: Global,
     list: ListText<'a, '_>,

@@ -95,8 +95,8 @@ fn topic_in<'a>(
     }
 }
 
-/// A topic that by these rules a subscription of this client can be sent by the list, or that there is none. A subscription
-/// is a topic filter, or `$share/NAME/FILTER`.
+/// A topic that by these rules a subscription of this client can be sent by the list, or that there
+/// is none. A subscription is a topic filter, or `$share/NAME/FILTER`.
 pub fn find_topic<'a>(
     alloc: Global,
     rules: Rules,
@@ -130,7 +130,7 @@ fn outcome_of(found: &Option<TopicName>) -> Outcome
     }
 }
 
-/// Shows a topic that a subscription of this client can be sent, or that it is in vain; and notes by our
+/// Shows a topic that a subscription of this client can be sent, or that it can receive nothing; and notes by our
 /// own rules where mosquitto decides otherwise.
 pub fn tell_reach<'a, W: Write>(
     alloc: Global,

@@ -79,9 +79,10 @@ fn found_in<'a>(
     }
 }
 
-/// A client with this user name, or without one, and a topic that the filter matches and that the list lets it read; or that
-/// there are none, whatever the client id. `%c` and `%u`, as levels of the filter, are the client's own id and user name. Where
-/// so many steps don't suffice to know it, it is given up.
+/// A client with this user name, or without one, and a topic that the filter matches and that the
+/// list lets it read; or that there are none, whatever the client id. `%c` and `%u`, as levels of
+/// the filter, are the client's own id and user name. Where so many steps don't suffice to know it,
+/// it is given up.
 pub fn find_any<'a>(
     alloc: Global,
     rules: Rules,
@@ -110,9 +111,9 @@ fn outcome_of(found: &Option<Difference>) -> Outcome
     }
 }
 
-/// Shows a client with this user name, or without one, and a topic that the filter matches and that it can be sent, or that
-/// none of them can be sent anything; and notes of whom it isn't known, and by our own rules where mosquitto decides
-/// otherwise.
+/// Shows a client with this user name, or without one, and a topic that the filter matches and that
+/// it can be sent, or that none of them can be sent anything; and notes of whom it isn't known, and
+/// by our own rules where mosquitto decides otherwise.
 pub fn tell_reach_any<'a, W: Write>(
     alloc: Global,
     list: ListText<'a, '_>,

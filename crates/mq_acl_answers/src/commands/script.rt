@@ -70,8 +70,9 @@ fn unless_no_command<'a>(findings: Findings, script: &'a str) -> Result<Findings
     })
 }
 
-/// The subscriptions of the script that this reader gives, with this name, that are in vain under the list. A script of
-/// which no line is a command is a failure: it is another file than was meant.
+/// The subscriptions of the script that this reader gives, with this name, that can receive nothing
+/// under the list. A script of which no line is a command is a failure: it is another file than was
+/// meant.
 pub fn find_subscriptions<'a, R: Read>(
     alloc: Global,
     rules: Rules,
@@ -104,8 +105,8 @@ fn outcome_of(findings: &Findings) -> Outcome
     Outcome::Remark
 }
 
-/// Shows the subscriptions of the script that this reader gives, with this name, that are in vain under the list; and
-/// notes by our own rules where mosquitto decides otherwise.
+/// Shows the subscriptions of the script that this reader gives, with this name, that can receive
+/// nothing under the list; and notes by our own rules where mosquitto decides otherwise.
 pub fn tell_subscriptions<'a, R: Read, W: Write>(
     alloc: Global,
     list: ListText<'a, '_>,

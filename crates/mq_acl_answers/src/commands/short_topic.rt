@@ -67,8 +67,9 @@ fn read_topic(
     }
 }
 
-/// A topic that by these rules the client may read by these rows, and the filter matches, where this one is such: with a short level in the
-/// place of each that is made up to be longer than any that is named, unless that is another.
+/// A topic that by these rules the client may read by these rows, and the filter matches, where
+/// this one is such: with a short level in the place of each that is made up to be longer than any
+/// that is named, unless that is another.
 pub(crate) fn shown_topic(
     alloc: Global,
     rules: Rules,

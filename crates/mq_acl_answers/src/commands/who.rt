@@ -39,7 +39,7 @@ fn is_shared(wanted: &str) -> bool
     wanted.starts_with("$share/")
 }
 
-// The filter with this text, which is no shared subscription.
+// The filter with this text, which is not a shared subscription.
 pub(crate) fn filter_of(alloc: Global, wanted: &str) -> Result<TopicFilter, Failure<'_>>
     ensures ok { IfOk result (λ filter. filter ≡ wanted.entry.now) }
     ensures err { IfErr result (λ failure. (failure ≡ Failure.Memory)
@@ -79,9 +79,9 @@ pub(crate) fn who_failure<'a>(
     }
 }
 
-/// Who may, by these rules and the list, read or write the topics that the filter matches, and who may not. `%c` and
-/// `%u`, as levels of the filter, are the client's own id and user name. Where so many steps don't suffice to know it, it
-/// is given up: what is answered is always the whole.
+/// Who may, by these rules and the list, read or write the topics that the filter matches, and who
+/// may not. `%c` and `%u`, as levels of the filter, are the client's own id and user name. Where so
+/// many steps don't suffice to know it, it is given up: what is answered is always the whole.
 pub fn find_permissions<'a>(
     alloc: Global,
     rules: Rules,
@@ -176,7 +176,7 @@ fn outcome_of(granted: &[Difference], selection: &Selection<'_>) -> Outcome
     Outcome::Clear
 }
 
-// What is told of.
+// What is said of.
 fn told(
     alloc: Global,
     granted: Vec<Difference>,

@@ -78,7 +78,7 @@ impl Deadlines {
         Ok(())
     }
 
-    /// Removes a pair, if there is one. It takes no memory.
+    /// Removes a pair, if there is one.
     pub(crate) fn remove(&mut self, due: &Option<Due>)
         ensures { Drops (option_map due_of due.now) self.old self.new }
     {
@@ -90,7 +90,7 @@ impl Deadlines {
         let _ = self.pairs.remove(due);
     }
 
-    /// Takes the first pair out if its deadline is at the moment or before it. It takes no memory.
+    /// Takes the first pair out if its deadline is at the moment or before it.
     pub(crate) fn take_due(&mut self, moment: u64, steps: &mut Steps) -> Option<TopicName>
         ensures some { IfSome result (λ topic. TakesDue moment topic self.old self.new) }
         ensures none { IfNone result (NoneDue moment self.old) }

@@ -16,14 +16,14 @@ use mq_tree::{LevelTree, Steps};
 use std::alloc::{AllocError, Global};
 use std::marker::Model;
 
-/// The messages by topic, seen as the entries of the tree. Their number, at most `u64::MAX`, is kept beside it, so that a limit
-/// can be tested without a walk.
+/// The messages by topic, seen as the entries of the tree. Their number, at most `u64::MAX`, is
+/// kept beside it, so that a limit can be tested without a walk.
 pub(crate) struct Messages {
     by_topic: LevelTree<Stored>,
     count: u64,
 }
 
-// One step where it is dropped, and not one for each thing inside.
+// Opaque to callers' proofs: one step, and not one for each field (docs/explanation/gate.md).
 impl Drop for Messages {
     fn drop(self) {
         let Messages {
@@ -80,7 +80,7 @@ impl Messages {
         Ok(older)
     }
 
-    /// Takes out the message at a topic. It takes no memory.
+    /// Takes out the message at a topic.
     pub(crate) fn take(&mut self, topic: &TopicName) -> Option<Stored>
         ensures value { result ≡ lookup (is_key (levels topic.now)) self.old }
         ensures rest { self.new ≡ remove_entry (is_key (levels topic.now)) self.old }

@@ -16,7 +16,7 @@ pub(crate) struct Stored {
     pub(crate) deadline: Option<u64>,
 }
 
-// One step where it is dropped, and not one for each thing inside.
+// Opaque to callers' proofs: one step, and not one for each field (docs/explanation/gate.md).
 impl Drop for Stored {
     fn drop(self) {
         let Stored {

@@ -17,7 +17,7 @@ pub(crate) struct Outgoing<'a> {
     ghost same_payload: { rc_str_bytes payload ≡ message.payload.now },
 }
 
-// One step where it is dropped, and not one for each thing inside.
+// Opaque to callers' proofs: one step, and not one for each field (docs/explanation/gate.md).
 impl Drop for Outgoing<'_> {
     fn drop(self) {
         let Outgoing {

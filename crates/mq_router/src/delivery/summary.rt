@@ -74,7 +74,7 @@ impl Summary {
         self.rap
     }
 
-    /// The identifiers, ascending, equal ones repeated. It takes no memory.
+    /// The identifiers, ascending, equal ones repeated.
     pub(crate) fn into_ids(self) -> Vec<u32>
         ensures { result.items ≡ ascending self.identifiers }
     {

@@ -31,8 +31,8 @@ pub(crate) struct Unshared {
     pub(crate) queued: Vec<QueuedCopy>,
 }
 
-/// The copies for the clients that may read the topic, by client id: for those that are connected, and for those that are
-/// away and have room.
+/// The copies for the clients that may read the topic, by client id: for those that are connected,
+/// and for those that are away and have room.
 pub(crate) fn unshared_copies(
     alloc: Global,
     view: &AccessView,

@@ -8,7 +8,7 @@ ghost use Rattle.mq_router.specs.router.Effects.{lasts};
 use mq_sessions::Sessions;
 use mq_subscriptions::Subscriptions;
 
-/// Takes out the sessions that have ended, and their subscriptions, and looks at no other's. It takes no memory.
+/// Takes out the sessions that have ended, and their subscriptions, and looks at no other's.
 pub(crate) fn end_sessions(sessions: &mut Sessions, subscriptions: &mut Subscriptions, moment: u64)
     ensures sessions { sessions.new
         ≡ filter (λ session. not (has_ended moment session)) sessions.old }

@@ -14,8 +14,8 @@ use mq_world::{Clock, Delivery};
 use std::alloc::{AllocError, Global};
 use std::rc::RcStr;
 
-/// Puts a new session of the client in the place of its older one, and gives the copies that waited there, if it is resumed.
-/// They are made first: the new session takes their place too.
+/// Puts a new session of the client in the place of its older one, and gives the copies that waited
+/// there, if it is resumed. They are made first: the new session takes their place too.
 pub(crate) fn start_session(
     sessions: &mut Sessions,
     alloc: Global,

@@ -8,7 +8,7 @@ pub struct DeviceFault;
 
 /// Where bytes come from.
 pub trait Source {
-    /// The bytes that are to come, where the device tells them.
+    /// The bytes that are to come, where they are known.
     ghost to_come: { Self → Option (List ℕ) };
 
     /// How many calls failed.
@@ -24,10 +24,10 @@ pub trait Source {
 
 /// Where bytes go.
 pub trait Sink {
-    /// The bytes that were taken, where the device tells them.
+    /// The bytes that were taken, where they are known.
     ghost taken: { Self → Option (List ℕ) };
 
-    /// The bytes that were taken when they were last handed on, where the device tells them.
+    /// The bytes that were taken when they were last handed on, where they are known.
     ghost flushed: { Self → Option (List ℕ) };
 
     /// How many calls failed.

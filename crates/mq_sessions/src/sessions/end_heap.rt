@@ -85,7 +85,7 @@ impl Ends {
         }
     }
 
-    /// Adds an end. It takes no memory.
+    /// Adds an end.
     pub fn add(&mut self, end: u64, client: RcStr)
         requires { length self.old.entries < self.old.room }
         ensures entries { AreWith (end, rc_str_bytes client) self.old.entries self.new.entries }

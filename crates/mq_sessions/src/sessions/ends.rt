@@ -1,5 +1,6 @@
-//! The index of the ends of sessions. It lists the end of each, and ends that are none any more: of clients that came back.
-//! Those go where they come first, or where a client that connects finds too little room.
+//! The index of the ends of sessions. It lists the end of each, and ends that are none any more: of
+//! clients that came back. Those go where they come first, or where a client that connects finds
+//! too little room.
 ghost use Rattle.std.specs.Prelude.{◌≡◌, ◌+◌, ◌<◌, ◌≤◌, true, length, IfOk, OnOk, IfSome};
 ghost use Rattle.std.specs.List.{list_any};
 ghost use Rattle.std.specs.Rc.{rc_str_bytes};
@@ -41,7 +42,7 @@ pub(crate) fn drop_stale_ends(ends: &mut Ends, sessions: &BTreeMap<RcStr, Sessio
     }
 }
 
-/// Adds the end of a session, if it has one. It takes no memory.
+/// Adds the end of a session, if it has one.
 pub(crate) fn push_end(ends: &mut Ends, end: Option<u64>, client: RcStr)
     requires { length ends.old.entries < ends.old.room }
     ensures listed { IfSome end (λ at. is_in (at, rc_str_bytes client) ends.new.entries ≡ true) }
@@ -75,8 +76,9 @@ fn ends_of(
     Ok(ends)
 }
 
-/// Makes room for the end of one session more. What is made anew has thrice the room that the sessions take with one more, so
-/// this is done once in at least half as many connects as there are sessions.
+/// Makes room for the end of one session more. What is made anew has thrice the room that the
+/// sessions take with one more, so this is done once in at least half as many connects as there are
+/// sessions.
 pub(crate) fn reserve_ends(
     alloc: Global,
     ends: &mut Ends,

@@ -17,8 +17,9 @@ use std::collections::LinkedList;
 use std::mem::replace;
 use std::rc::RcStr;
 
-/// Whether a client is connected, or away until its session ends, at a moment or never. While it is connected its id is kept
-/// once more, for the index of ends: where the connection ends, none can be made.
+/// Whether a client is connected, or away until its session ends, at a moment or never. While it is
+/// connected its id is kept once more, for the index of ends: where the connection ends, none can
+/// be made.
 #[derive(Drop)]
 pub enum Presence {
     Connected { id: RcStr },
@@ -39,7 +40,7 @@ pub struct Waiting {
     pub deadline: Option<u64>,
 }
 
-// One step where it is dropped, and not one for each thing inside.
+// Opaque to callers' proofs: one step, and not one for each field (docs/explanation/gate.md).
 impl Drop for Waiting {
     fn drop(self) {
         let Waiting {
@@ -59,7 +60,7 @@ pub struct Session {
     pub waiting: LinkedList<Waiting>,
 }
 
-// One step where it is dropped, and not one for each thing inside.
+// Opaque to callers' proofs: one step, and not one for each field (docs/explanation/gate.md).
 impl Drop for Session {
     fn drop(self) {
         let Session {
@@ -152,7 +153,7 @@ impl Session {
         }
     }
 
-    /// One more copy waits, behind the others, if there is a place for it. It takes no memory. Who was found to have room has
+    /// One more copy waits, behind the others, if there is a place for it. Who was found to have room has
     /// a place: to ask again spares an invariant on how many wait.
     pub fn queue(&mut self, limit: u32, mut copies: LinkedList<Waiting>)
         requires { length copies ≤ 1 }

@@ -11,8 +11,9 @@ use std::collections::BTreeSet;
 use std::marker::Model;
 use std::rc::RcStr;
 
-/// A client's subscriptions, by their texts, so that one can be looked up by the text of a command. Each has a place of its own,
-/// since a leaf of the set has room for more than most clients subscribe to.
+/// A client's subscriptions, by their texts, so that one can be looked up by the text of a command.
+/// Each has a place of its own, since a leaf of the set has room for more than most clients
+/// subscribe to.
 #[derive(Drop)]
 pub(crate) struct ClientFilters {
     texts: BTreeSet<RcStr>,
@@ -59,7 +60,7 @@ impl ClientFilters {
         Ok(())
     }
 
-    /// Removes the subscription with this text, if there is one. It takes no memory.
+    /// Removes the subscription with this text, if there is one.
     pub(crate) fn remove(&mut self, text: &str)
         requires { IsTrue (is_subscription text.now) }
         ensures { (s : Subscription)

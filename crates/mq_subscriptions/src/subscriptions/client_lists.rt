@@ -73,7 +73,6 @@ impl ClientLists {
     }
 
     /// Removes the subscription with this text, if there is one, and with its last one the client.
-    /// It takes no memory.
     pub(crate) fn remove(&mut self, client: &str, text: &str)
         requires { IsTrue (is_subscription text.now) }
         ensures { ListsLess client.now (text_key text.now) self.old self.new }
@@ -87,7 +86,7 @@ impl ClientLists {
         }
     }
 
-    /// Takes out all that the client has, if it has any. It takes no memory.
+    /// Takes out all that the client has, if it has any.
     pub(crate) fn take(&mut self, client: &str) -> Option<ClientFilters>
         ensures taken { result ≡ lookup (is_text client.now) self.old }
         ensures rest { ListsOthers client.now self.old self.new }

@@ -34,7 +34,7 @@ pub struct FilterEntry {
     groups: ShareGroups,
 }
 
-// One step where it is dropped, and not one for each thing inside.
+// Opaque to callers' proofs: one step, and not one for each field (docs/explanation/gate.md).
 impl Drop for FilterEntry {
     fn drop(self) {
         let FilterEntry {
@@ -129,7 +129,7 @@ impl FilterEntry {
         }
     }
 
-    /// A member of a group goes last. It takes no memory.
+    /// A member of a group goes last.
     #[tactic(auto, using(crate::proofs::EntryLemmas::is_here))]
     pub fn serve(&mut self, share: &str, client: &str)
         ensures turned { SameInTurn self.new.rows

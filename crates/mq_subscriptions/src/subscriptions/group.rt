@@ -80,7 +80,7 @@ impl Group {
         let _ = self.members.shift_remove(client);
     }
 
-    /// The member goes last. It takes no memory.
+    /// The member goes last.
     pub(crate) fn serve(&mut self, client: &str)
         ensures { self.new ≡ put_last (has_client client.now) self.old }
     {

@@ -128,7 +128,7 @@ impl ShareGroups {
         }
     }
 
-    /// A member goes last in its group. It takes no memory.
+    /// A member goes last in its group.
     pub(crate) fn serve(&mut self, share: &str, client: &str)
         ensures { GroupTurns share.now client.now self.old self.new }
     {

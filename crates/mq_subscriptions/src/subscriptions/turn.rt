@@ -19,7 +19,7 @@ pub struct Turn {
     pub options: SubscriptionOptions,
 }
 
-// One step where it is dropped, and not one for each thing inside.
+// Opaque to callers' proofs: one step, and not one for each field (docs/explanation/gate.md).
 impl Drop for Turn {
     fn drop(self) {
         let Turn {

@@ -1,4 +1,4 @@
-//! Readers and writers that implement `Source` and `Sink` and misbehave where they are told to. Each fails once, and
+//! Readers and writers that implement `Source` and `Sink` and misbehave where they are set to. Each fails once, and
 //! then goes on as if nothing had happened.
 ghost use Rattle.std.specs.Prelude.{◌≡◌, ◌+◌, ◌||◌, ℕ, List, Option, None, IsTrue, false};
 ghost use Rattle.std.specs.Prelude.{if◌then◌else◌};

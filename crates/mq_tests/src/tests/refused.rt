@@ -45,7 +45,7 @@ fn growths_of_a_row(rt: HostRuntime) {
         };
         return try_row(&rt, row);
     };
-    // The first is passed over like the program's name.
+    // The first is skipped like the program's name.
     let options = arguments(rt.alloc(), words.as_slice()).expect(&rt, "words of mqroute");
     try_files(&rt, output.as_str(), &options);
 }

@@ -219,7 +219,7 @@ fn limits_in_bytes(rt: HostRuntime) {
     }
 }
 
-// The answers to the front of a script: a last piece that is no whole line is no JSON.
+// The answers to the front of a script: a last piece that is not a whole line is not JSON.
 fn answers_to_front(
     alloc: Global,
     script: &str,

@@ -69,7 +69,7 @@ pub struct Steps {
     pub(in crate::tree) walk: Walk,
 }
 
-// One step where it is dropped, and not one for each thing inside.
+// Opaque to callers' proofs: one step, and not one for each field (docs/explanation/gate.md).
 impl Drop for Steps {
     fn drop(self) {
         let Steps { walk: _ } = self;

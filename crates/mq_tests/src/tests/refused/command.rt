@@ -68,8 +68,8 @@ fn apply_refused(
     (was_refused, answer)
 }
 
-// Answers a line while its nth growth is refused, and tells whether a growth was, and whether memory ran out. Else what
-// it answers is written.
+// Answers a line while its nth growth is refused, and answers whether a growth was, and whether
+// memory ran out. Else what it answers is written.
 fn answer_refused(
     rt: &(impl Abort + AllocGlobal),
     nth: u32,

@@ -61,8 +61,8 @@ impl<'a> Put<'a> {
 }
 
 impl<'a> Trial for Put<'a> {
-    // Where it is refused, the tree is as before, and the next put makes the tree that it should. A key that is there takes
-    // no memory: no growth is met.
+    // Where it is refused, the tree is as before, and the next put makes the tree that it should. A
+    // key that is there takes no memory: no growth is met.
     fn attempt<R: Abort + AllocGlobal>(&self, rt: &R, nth: u32) -> bool {
         let mut tree = tree_of(rt, self.keys);
         refuse(rt.alloc(), nth);

@@ -14,7 +14,7 @@ pub(crate) struct Reply {
     pub(crate) answer: Result<Result<Answer, Refusal>, LineFault>,
 }
 
-// One step where it is dropped, and not one for each thing inside.
+// Opaque to callers' proofs: one step, and not one for each field (docs/explanation/gate.md).
 impl Drop for Reply {
     fn drop(self) {
         let Reply { line: _, answer: _ } = self;

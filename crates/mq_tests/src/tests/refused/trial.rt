@@ -15,7 +15,7 @@ pub(crate) trait Trial {
 /// What a call is tried on.
 #[derive(Clone, Copy)]
 pub(crate) enum Subject<'a> {
-    /// A text. A long one is told by its length.
+    /// A text. A long one is shown by its length.
     Text(&'a str),
     /// The line of a script with this number.
     Line(u64),
@@ -44,8 +44,8 @@ fn refusals<T: Trial>(rt: &(impl Abort + AllocGlobal), trial: &T) -> u32 {
     MOST
 }
 
-/// Tries a call on this subject with ample memory, and then with each growth refused, and tells how many were. Where
-/// something is wrong, what was told last says of which call.
+/// Tries a call on this subject with ample memory, and then with each growth refused, and answers how many were. Where
+/// something is wrong, what was printed last says of which call.
 pub(crate) fn attempt<T: Trial>(
     rt: &(impl Abort + AllocGlobal + Print),
     call: &str,
