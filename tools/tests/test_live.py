@@ -8,7 +8,7 @@ import unittest
 
 from mosquitto import PAHO, wants_paho
 from test_replay import OnABroker
-from worked import HERE, PROGRAM, wants_program
+from worked import GUIDE, HERE, PROGRAM, wants_program
 
 
 @wants_paho
@@ -22,7 +22,7 @@ class Live(OnABroker):
 
     def test_the_example(self):
         self.start(access="pattern readwrite #\n")
-        text = (HERE / "README.md").read_text("utf-8")
+        text = GUIDE.read_text("utf-8")
         [example] = [code for code in re.findall(r"^```python\n(.*?)^```$", text, re.S | re.M)
                      if "import Live" in code]
         self.run_code(example + "test_retained_at_a_subscribe()\ntest_no_local()\n")

@@ -1,4 +1,4 @@
-"""The oracle module; and the README's example, which finds the bug that is
+"""The oracle module; and the guide's example, which finds the bug that is
 planted in its broker."""
 import json
 import os
@@ -8,7 +8,7 @@ import unittest
 from pathlib import Path
 from unittest import mock
 
-from worked import HERE, PROGRAM, UNBUFFERED, answers, wants_program, wants_unbuffered
+from worked import GUIDE, PROGRAM, UNBUFFERED, answers, wants_program, wants_unbuffered
 import mqroute
 from mqroute import Oracle, OracleFault
 from mqroute_tools.common import programs
@@ -161,15 +161,15 @@ class WithoutTheOption(unittest.TestCase):
 
 @wants_program
 class Example(unittest.TestCase):
-    """The blocks of the README are files for pytest. Here their functions are called without."""
+    """The blocks of the guide are files for pytest. Here their functions are called without."""
     BY_LINE, WHOLE = "test_as_mqroute", "test_whole_script"
 
     def example(self) -> dict:
-        text = (HERE / "README.md").read_text("utf-8")
+        text = GUIDE.read_text("utf-8")
         names: dict = {}
         with mock.patch.dict(os.environ, MQROUTE=str(PROGRAM)):
             for code in re.findall(r"^```python\n(.*?)^```$", text, re.S | re.M):
-                exec(compile(code, "README.md", "exec"), names)
+                exec(compile(code, GUIDE.name, "exec"), names)
         return names
 
     def chosen(self, names: dict) -> list:
@@ -182,7 +182,7 @@ class Example(unittest.TestCase):
                     AssertionError) as found:
                 test()
             self.assertIn("E       AssertionError: " + str(found.exception) + "\n",
-                          (HERE / "README.md").read_text("utf-8"))
+                          GUIDE.read_text("utf-8"))
 
     def test_they_pass_without(self):
         names = self.example()

@@ -1,13 +1,10 @@
-"""The recorded logs under the built mqroute, the broker's own lines against its copies, and the
-READMEs' numbers.
+"""The recorded logs under the built mqroute, and the broker's own lines against its copies.
 
 The program is $MQROUTE, or the one that `make` builds; without one the tests that want it are
 skipped.
 """
 import io
-import os
 import re
-import shutil
 import subprocess
 import sys
 import tempfile
@@ -19,7 +16,6 @@ from mqroute_tools.log.conversion import Converter, placed_commands
 from mqroute_tools.log.log_to_script import text_of
 
 RECORDED = TOP / "brokers/recorded"
-ACL_PROGRAM = TOP / "bin/mqroute-acl"
 SESSIONS = ["--session-expiry", "3600"]  # as record_clients.py asks for
 
 
@@ -34,12 +30,6 @@ def tool(name: str, *words: str | Path) -> tuple[int, str]:
     done = subprocess.run(
         [sys.executable, HERE / name, *words], capture_output=True, text=True, encoding="utf-8")
     return done.returncode, done.stdout
-
-
-def walk_through(text: str) -> list[tuple[str, str]]:
-    """The commands in a document's blocks, each with what it prints."""
-    blocks = re.findall(r"```\n(\$ .*?)```", text, re.S)
-    return re.findall(r"^\$ (.*)\n((?:(?!\$ ).*\n)*)", "".join(blocks), re.M)
 
 
 class Recorded(unittest.TestCase):
@@ -140,32 +130,6 @@ class Scripts(unittest.TestCase):
         for name in lists:
             done = subprocess.run([PROGRAM, "--acl-file", name], input=b"", capture_output=True)
             self.assertEqual((done.returncode, done.stdout), (2, b""), name)
-
-
-class Readme(unittest.TestCase):
-    def check(self, commands: list[tuple[str, str]]) -> None:
-        """Runs commands in order in the folder of the recorded logs, and
-        compares what they print."""
-        with tempfile.TemporaryDirectory() as folder:
-            for name in ("tools", "brokers"):
-                shutil.copytree(TOP / name, Path(folder, name),
-                                ignore=shutil.ignore_patterns("__pycache__"))
-            Path(folder, "mqroute").symlink_to(PROGRAM)
-            Path(folder, "mqroute-acl").symlink_to(ACL_PROGRAM)
-            around = os.environ | {"PATH": f"{folder}:{os.environ['PATH']}"}
-            for command, printed in commands:
-                done = subprocess.run(command, shell=True, cwd=Path(folder, "brokers/recorded"),
-                                      text=True, encoding="utf-8",
-                                      stdout=subprocess.PIPE, stderr=subprocess.STDOUT, env=around)
-                self.assertEqual(done.stdout, printed, command)
-
-    @wants_program
-    @unittest.skipUnless(ACL_PROGRAM.exists(), f"there is no {ACL_PROGRAM}")
-    def test_walk_through(self):
-        text = (HERE / "README.md").read_text(encoding="utf-8")
-        commands = walk_through(text.split("## Walk-through")[1].split("\n## ")[0])
-        self.assertGreater(len(commands), 4)
-        self.check(commands)
 
 
 if __name__ == "__main__":

@@ -10,6 +10,7 @@ from pathlib import Path
 
 HERE = Path(__file__).parent.parent
 TOP = HERE.parent
+GUIDE = TOP / "docs/guide/oracle.md"  # with files for pytest
 sys.path.insert(0, str(HERE))
 PROGRAM = Path(os.environ.get("MQROUTE", TOP / "bin/mqroute"))
 wants_program = unittest.skipUnless(PROGRAM.exists(), f"there is no {PROGRAM}")

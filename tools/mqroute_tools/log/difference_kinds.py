@@ -1,4 +1,5 @@
-"""The kinds of differences between a log and mqroute's output, which tools/README.md explains."""
+"""The kinds of differences between a log and mqroute's output, which
+docs/reference/compare-log.md explains."""
 from ..script.output import Key
 from ..script.topics import matches
 from .steps import Copy, Step
