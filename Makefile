@@ -6,7 +6,7 @@
 # growth of memory refused in turn.
 # package: a Debian package and an archive of the same files, in dist/, of the programs of bin/.
 # bench: measures the programs of bin/ (bench/README.md).
-# install: puts the programs of bin/ and the tools beside real brokers below PREFIX, with a man page each and completion, and
+# install: puts the programs of bin/ and the tools beside real brokers below PREFIX, with man pages and completion, and
 # compiles the tools' modules for PYTHON, where there is one (PYTHON= compiles none); uninstall takes all of it out again.
 .PHONY: all run check test package bench install uninstall mended programs
 
@@ -77,6 +77,7 @@ install: programs
 	install -m 755 bin/mqroute-acl $(INSTALLED)/bin/mqroute-acl
 	install -d $(INSTALLED)/share/man/man1
 	install -m 644 docs/mqroute.1 docs/mqroute-acl.1 $(TOOL_NAMES:%=docs/%.1) $(INSTALLED)/share/man/man1
+	install -D -m 644 docs/mqroute.7 $(INSTALLED)/share/man/man7/mqroute.7
 	install -D -m 644 docs/mqroute.bash-completion $(COMPLETIONS)/mqroute
 	install -m 644 docs/mqroute-acl.bash-completion $(COMPLETIONS)/mqroute-acl
 	install -d $(BROKERS:%=$(INSTALLED)/share/mqroute/differences/%) $(INSTALLED)/share/mqroute/schemas
@@ -106,4 +107,5 @@ uninstall:
 	for name in mqroute mqroute-acl $(TOOL_NAMES); do \
 	    rm -f $(INSTALLED)/bin/$$name $(INSTALLED)/share/man/man1/$$name.1 $(COMPLETIONS)/$$name; \
 	done
+	rm -f $(INSTALLED)/share/man/man7/mqroute.7
 	rm -rf $(INSTALLED)/lib/mqroute $(INSTALLED)/share/mqroute

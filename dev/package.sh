@@ -20,16 +20,19 @@ doc=$usr/share/doc/mqroute
 # Which Python will read the modules isn't known: they aren't compiled.
 make --no-print-directory -s install DESTDIR="$root" PREFIX=/usr PYTHON=
 
-# The README's sessions begin in a copy of this folder, as in a clone.
+# The sessions of README, guides and reference begin in a copy of this folder, as in a clone.
 install -d "$doc/docs" "$doc/brokers/recorded"
 cp -r README.md examples "$doc"
 cp -r docs/adr docs/definitions docs/explanation docs/reference docs/preview.png "$doc/docs"
 cp brokers/recorded/plain.log brokers/recorded/plain.acl brokers/recorded/proposed.acl "$doc/brokers/recorded"
 find "$doc" -name __pycache__ -prune -exec rm -rf {} +
+cp -r docs/guide docs/GLOSSARY.md docs/preview.png "$doc/docs"
+install -d "$doc/brokers/differences"
+grep -rhoE 'brokers/differences/[a-z-]+\.jsonl' docs/guide docs/reference | sort -u | xargs cp -t "$doc/brokers/differences"
 
 # As Debian has it: no symbols, pages packed, the system's python3.
 strip "$usr/bin/mqroute" "$usr/bin/mqroute-acl"
-gzip -9n "$usr"/share/man/man1/*.1
+gzip -9n "$usr"/share/man/man1/*.1 "$usr"/share/man/man7/*.7
 sed -i '1s,^#!/usr/bin/env python3$,#!/usr/bin/python3,' "$usr"/lib/mqroute/*.py
 printf 'mqroute (%s) unstable; urgency=medium\n\n  * Commit %s.\n\n -- %s  %s\n' "$version" "$commit" \
     "$(git log -1 --format='%cn <%ce>')" "$(date -u -R -d "@$SOURCE_DATE_EPOCH")" | gzip -9n > "$doc/changelog.gz"

@@ -9,7 +9,7 @@ trap 'rm -rf "$root"' EXIT
 debootstrap --variant=minbase "$release" "$root" > "$root.log" 2>&1 || { tail "$root.log"; exit 1; }
 rm "$root.log"
 cp dist/mqroute_*_amd64.deb "$root/root/mqroute.deb"
-cp tests/readme.py "$root/root"
+cp tests/readme.py tests/faults.py "$root/root"
 cp /etc/resolv.conf "$root/etc"
 inside() {
     chroot "$root" env -i PATH=/usr/sbin:/usr/bin:/sbin:/bin HOME=/root LC_ALL=C.UTF-8 DEBIAN_FRONTEND=noninteractive "$@"

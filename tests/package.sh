@@ -25,6 +25,9 @@ done
 dpkg-deb -x "$scratch"/first/*.deb "$scratch/root"
 tests/readme.py --installed "$scratch/root"
 tests/links.py --installed "$scratch/root"
+for page in docs/*.[1-8]; do
+    gzip -dc "$scratch/root/usr/share/man/man${page##*.}/${page##*/}.gz" | cmp - "$page"
+done
 mkdir "$scratch/archive"
 tar -C "$scratch/archive" --strip-components=1 -xzf "$scratch"/first/*.tar.gz
 diff -r --no-dereference "$scratch/root/usr" "$scratch/archive"
