@@ -16,8 +16,9 @@ from worked import HERE, TOP
 BUILT = [TOP / f"crates/{name}/out/{name}" for name in ("mqroute", "mqroute_acl")]
 TOOLS = ("log_to_script", "who_loses", "why", "preview", "replay", "compare_log", "check", "search",
          "tools")
-SECTIONS = ["NAME", "SYNOPSIS", "DESCRIPTION", "OPTIONS", "EXIT STATUS", "EXAMPLE", "SEE ALSO"]
+SECTIONS = ["NAME", "SYNOPSIS", "DESCRIPTION", "OPTIONS", "EXIT STATUS", "EXAMPLES", "SEE ALSO"]
 PROGRAMS = ("mqroute", "mqroute-acl")
+OVERVIEW = "mqroute.7"
 # What each page has under SEE ALSO at least.
 SEE_ALSO = {
     "mqroute": {"mqroute-acl"}, "mqroute-acl": {"mqroute"}, "mqroute-who-loses": set(PROGRAMS)}
@@ -70,12 +71,30 @@ class Pages(unittest.TestCase):
 
     @unittest.skipUnless(shutil.which("man"), "there is no man")
     def test_man_takes_them(self):
-        for name in (*PROGRAMS, *map(installed_name, TOOLS)):
-            done = subprocess.run(["man", "--warnings", "-l", f"docs/{name}.1"], cwd=TOP,
+        pages = [f"{name}.1" for name in (*PROGRAMS, *map(installed_name, TOOLS))] + [OVERVIEW]
+        for page in pages:
+            done = subprocess.run(["man", "--warnings", "-l", f"docs/{page}"], cwd=TOP,
                                   capture_output=True, text=True,
                                   env=os.environ | {"MANWIDTH": "80", "LC_ALL": "C.UTF-8"})
             self.assertEqual((done.returncode, done.stderr), (0, ""))
-            self.assertIn(name, done.stdout)
+            self.assertIn(page.partition(".")[0], done.stdout)
+
+    def test_examples(self):
+        """Each page has an example with what it prints, which tests/readme.py runs where no broker
+        is needed."""
+        for name in (*PROGRAMS, *map(installed_name, TOOLS)):
+            with self.subTest(name):
+                text = (TOP / f"docs/{name}.1").read_text("utf-8")
+                [examples] = re.findall(r"^\.SH EXAMPLES\n(.*?)^\.SH ", text, re.S | re.M)
+                if name not in ("mqroute-replay", "mqroute-search"):
+                    self.assertRegex(examples, r"(?m)^\.nf\n\$ .*\n")
+
+    def test_overview(self):
+        """It names each program and tool, above its SEE ALSO and in it."""
+        text = (TOP / f"docs/{OVERVIEW}").read_text("utf-8").replace("\\-", "-")
+        for part in text.split('.SH "SEE ALSO"\n'):
+            named = set(re.findall(r"^\.BR (mqroute\S*) \(1\)", part, re.M))
+            self.assertEqual(named, {*PROGRAMS, *map(installed_name, TOOLS)})
 
     def test_see_also(self):
         """The programs name all, and each page those that its text speaks of; in order."""
@@ -161,6 +180,7 @@ class Installed(unittest.TestCase):
             self.make("install", folder)
             for tool in map(installed_name, TOOLS):
                 self.assertTrue(Path(folder, f"share/man/man1/{tool}.1").exists())
+            self.assertTrue(Path(folder, f"share/man/man7/{OVERVIEW}").exists())
             for name in ("mqroute", "mqroute-acl"):
                 self.assertTrue(Path(folder, f"share/man/man1/{name}.1").exists()
                                 and os.access(f"{folder}/bin/{name}", os.X_OK))

@@ -211,18 +211,6 @@ class Steps(Case):
 
 
 @wants_programs
-class Example(Case):
-    def test_the_manual_page(self):
-        """What it prints, but for where lines break."""
-        page = (TOP / "docs/mqroute-preview.1").read_text("utf-8").replace("\\-", "-")
-        shown = page.split(".nf\n$ mqroute-preview ")[1].split("\n.fi")[0]
-        words, _, wanted = shown.partition("\n")
-        done = subprocess.run([sys.executable, HERE / "preview.py", *words.split()],
-                              cwd=TOP / "examples/new-access-list", capture_output=True, text=True)
-        self.assertEqual((done.stdout.split(), done.stderr), (wanted.split(), ""))
-
-
-@wants_programs
 class Json(Case):
     def test_against_the_tools_it_stands_on(self):
         """The recorded day: numbers of who-loses, mqroute-acl compare and reach."""
