@@ -1,0 +1,63 @@
+-- What can't be where lists and the plan are fit.
+use Rattle.std.proofs.Common.{◌≡◌, ℕ, Bool, true, false, ◌||◌, List, Some, None}
+use Rattle.std.proofs.Common.{refl, ap, sym, ◌∙◌}
+use Rattle.std.proofs.lemmas.Bool.{or_from}
+use Rattle.mq_acl.specs.Views.{row_views}
+use Rattle.mq_acl.specs.declared.row.Row.{Row}
+use Rattle.mq_acl.specs.declared.rules.Rules.TheVariants.{Own}
+use Rattle.mq_rename.specs.Lists.{IsFault, has_long, is_long}
+use Rattle.mq_rename.specs.declared.fault.MeetFault.TheVariants.{TooLong}
+use Rattle.mq_witness.specs.Limits.{long_line}
+use Rattle.mq_witness.specs.Rows.{is_user_of}
+use Rattle.mq_findings.specs.Faults.{IsComparisonFault}
+use Rattle.mq_findings.specs.declared.fault.ComparisonFault.{ComparisonFault}
+use Rattle.mq_findings.specs.declared.fault.ComparisonFault.TheVariants as comparison
+use Rattle.mq_regions.specs.Limits.{has_long_filter, has_long_row, is_long_question}
+use Rattle.mq_regions.specs.Regions.{region_levels}
+use Rattle.mq_regions.specs.declared.region.Region.{Region}
+use Rattle.mq_plan.specs.declared.rule.PlanRule.{PlanRule}
+use Rattle.mq_through.specs.Made.{AreShort, IsClient, IsCompareStop, IsComparison}
+use Rattle.mq_through.specs.Parts.{IsPart}
+use Rattle.mq_through.specs.declared.lists.Comparison.{Comparison}
+use Rattle.mq_through.proofs.LimitLemmas.{long_none, none_long, short_filters, short_user}
+
+pub users_short : (c : Comparison) → IsComparison c → AreShort c.users.items
+users_short c is user h =
+    at (is_user_of user (row_views c.old.now)) refl (sym (is.users user) ∙ h)
+  where
+    at : (b : Bool) → is_user_of user (row_views c.old.now) ≡ b
+        → (is_user_of user (row_views c.old.now) || is_user_of user (row_views c.new.now)) ≡ true
+        → is_long user ≡ false
+    at true e k = short_user user (row_views c.old.now) (none_long c.old.now is.fit.old_short) e
+    at false e k = short_user user (row_views c.new.now) (none_long c.new.now is.fit.new_short)
+        (sym (ap (λ b. b || is_user_of user (row_views c.new.now)) e) ∙ k)
+
+pub short_question : (plan : List PlanRule) (region : Region) (client : List ℕ) (rows : List Row)
+    → IsPart plan region → IsClient client → long_line rows ≡ None
+    → is_long_question region client rows ≡ false
+short_question plan region client rows part is h =
+    or_from (is_long client || has_long (region_levels region)) (has_long_filter rows)
+    (or_from (is_long client) (has_long (region_levels region)) is.short part.of.short)
+    (short_filters rows (none_long rows h))
+
+pub not_too_long : (plan : List PlanRule) (region : Region) (client : List ℕ) (rows : List Row)
+    → IsPart plan region → IsClient client → long_line rows ≡ None
+    → IsFault TooLong (is_long_question region client rows) → ⊥
+not_too_long plan region client rows part is h e =
+    let q : false ≡ true = sym (short_question plan region client rows part is h) ∙ e in cc
+
+no_line : (rows : List Row) (line : ℕ) → has_long_row (row_views rows) ≡ false
+    → long_line rows ≡ Some line → ⊥
+no_line rows line h e = let q : None ≡ Some line = sym (long_none rows h) ∙ e in cc
+
+pub compare_stops : (old new : List Row) (steps : ℕ) (fault : ComparisonFault)
+    → has_long_row (row_views old) ≡ false → has_long_row (row_views new) ≡ false
+    → IsComparisonFault Own old new steps fault → IsCompareStop fault
+compare_stops old new steps comparison.Memory h k is = tt
+compare_stops old new steps (comparison.OldLine line) h k is = no_line old line h is
+compare_stops old new steps (comparison.NewLine line) h k is = no_line new line k is
+compare_stops old new steps (comparison.OldMark line) h k is =
+    let q : None ≡ Some line = is in absurd (cc)
+compare_stops old new steps (comparison.NewMark line) h k is =
+    let q : None ≡ Some line = is in absurd (cc)
+compare_stops old new steps (comparison.GaveUp side line others) h k is = tt

@@ -1,0 +1,133 @@
+-- What is told for one client holds for another for whom the same lists are made.
+use Rattle.std.proofs.Common.{◌≡◌, ◌∙◌, ◌&&◌, ℕ, Bool, true, false, cond, List, [], ◌∷◌, refl, ap, sym}
+use Rattle.std.proofs.Common.{Option, Some, None, length, arith}
+use Rattle.std.specs.Prelude.{find}
+use Rattle.std.specs.List.{list_any}
+use Rattle.std.specs.Option.{option_map}
+use Rattle.mq_acl.specs.Access.{concerns}
+use Rattle.mq_acl.specs.Lines.{Access}
+use Rattle.mq_acl.specs.Rows.{AclRow}
+use Rattle.mq_acl.specs.Views.{row_view}
+use Rattle.mq_acl.specs.declared.row.Row.{Row}
+use Rattle.mq_findings.specs.Classes.{is_in}
+use Rattle.mq_findings.specs.Differences.{same_direction, same_reason, same_start, same_way}
+use Rattle.mq_findings.specs.Reasons.{is_grant}
+use Rattle.mq_findings.specs.declared.reason.Reason.{Reason}
+use Rattle.mq_findings.specs.declared.way.Way.{Way}
+use Rattle.mq_acl.specs.Views.{row_views}
+use Rattle.mq_regions.specs.Deciding.{decides, first_line}
+use Rattle.mq_regions.specs.Regions.{in_region, name_in}
+use Rattle.mq_regions.specs.declared.region.Region.{Region}
+use Rattle.mq_through.specs.Made.{IsClient, IsMade, SameRows}
+use Rattle.mq_through.specs.Parts.{IsPart}
+use Rattle.mq_through.specs.Through.{IsQuestion, Question, changes, is_told_of, new_allows}
+use Rattle.mq_through.specs.Through.{new_reason, old_allows, old_reason, rule_line, same_line}
+use Rattle.mq_through.specs.Tried.{IsLastMade, IsTried, TellsIn}
+use Rattle.mq_through.specs.declared.lists.Comparison.{Comparison}
+use Rattle.mq_through.specs.declared.made.Made.{Made}
+use Rattle.mq_through.specs.declared.renamed.Renamed.{Renamed}
+use Rattle.mq_through.proofs.ReasonLemmas.{allows_by_reason, same_by_lines}
+
+first_same : (p : Access → Bool) (x : List ℕ) (u : Option (List ℕ)) (n : List ℕ)
+    (rows others : List Row) → SameRows rows others
+    → first_line p x u n rows ≡ first_line p x u n others
+first_same p x u n [] [] same = refl
+first_same p x u n [] (b ∷ rest_b) same = absurd (let e = ap length same.0 in omega arith)
+first_same p x u n (a ∷ rest_a) [] same = absurd (let e = ap length same.0 in omega arith)
+first_same p x u n (a ∷ rest_a) (b ∷ rest_b) same =
+    (λ i. option_map (λ (row : Row). row.line) (cond (tests (view i)) (Some a)
+    (find (decides p x u n) rest_a)))
+    ∙ at (tests (row_view b)) (first_same p x u n rest_a rest_b rest)
+  where
+    tests : AclRow → Bool
+    tests row = concerns x u n row && p row.access
+
+    view : row_view a ≡ row_view b
+    view = let e = same.0 in cc
+
+    line : a.line ≡ b.line
+    line = let e = same.1 in cc
+
+    rest : SameRows rest_a rest_b
+    rest = (let e = same.0 in cc, let e = same.1 in cc)
+
+    at : (t : Bool) → first_line p x u n rest_a ≡ first_line p x u n rest_b
+        → option_map (λ (row : Row). row.line) (cond t (Some a) (find (decides p x u n) rest_a))
+        ≡ option_map (λ (row : Row). row.line) (cond t (Some b) (find (decides p x u n) rest_b))
+    at true behind = ap Some line
+    at false behind = behind
+
+-- the same question of another client
+asked_by : List ℕ → Question → Question
+asked_by client q = record {
+  client = client;
+  user = q.user;
+  direction = q.direction;
+  topic = q.topic;
+  name = q.name;
+}
+
+told_for : (k : Comparison) (way : Way) (q : Question) (old new : Reason) (all : List Renamed)
+    → Bool
+told_for k way q old new all = list_any (λ r. is_in (row_views k.old.now) (row_views k.new.now) q.user
+    r.difference.class
+    && same_direction q.direction r.difference.direction
+    && same_way way r.difference.way && same_start q.topic r.difference.topic
+    && same_reason old r.difference.old_reason && same_reason new r.difference.new_reason
+    && same_line (rule_line k.plan.now q.topic) r.rule) all
+
+pub told_again : (k : Comparison) (region : Region) (b c : List ℕ) (m n : Made)
+    (all : List Renamed) → IsPart k.plan.now region → IsClient b → IsMade k region b m
+    → IsMade k region c n → SameRows m.old.items n.old.items → SameRows m.new.items n.new.items
+    → TellsIn k.plan.now k.old.now k.new.now region b all
+    → TellsIn k.plan.now k.old.now k.new.now region c all
+unfolding asked_by told_for
+told_again k region b c m n all part can made made_c same_old same_new tells way q asked is inside
+    changed =
+    (λ i. told_for k way q (old_is i) (new_is i) all)
+    ∙ tells way (asked_by b q) (record {
+      client = can.id;
+      user = asked.user;
+      topic = asked.topic;
+      name = asked.name;
+    }) refl inside ((λ i. changes way (sym old_may i) (sym new_may i)) ∙ changed)
+  where
+    named : name_in region q.topic ≡ Some q.name
+    named = part.of.names q.topic inside ∙ asked.name
+
+    old_lines : (p : Access → Bool) → first_line p q.client q.user q.topic k.old.now
+        ≡ first_line p b q.user q.topic k.old.now
+    old_lines p = ap (λ (x : List ℕ). first_line p x q.user q.topic k.old.now) is
+        ∙ sym (made_c.old_list.same c q.topic q.topic q.user p asked.topic inside refl)
+        ∙ sym (first_same p c q.user q.topic m.old.items n.old.items same_old)
+        ∙ made.old_list.same c q.topic q.topic q.user p asked.topic inside refl
+
+    new_lines : (p : Access → Bool) → first_line p q.client q.user q.name k.new.now
+        ≡ first_line p b q.user q.name k.new.now
+    new_lines p = ap (λ (x : List ℕ). first_line p x q.user q.name k.new.now) is
+        ∙ sym (made_c.new_list.same c q.topic q.name q.user p asked.topic inside named)
+        ∙ sym (first_same p c q.user q.topic m.new.items n.new.items same_new)
+        ∙ made.new_list.same c q.topic q.name q.user p asked.topic inside named
+
+    old_is : old_reason k.old.now q ≡ old_reason k.old.now (asked_by b q)
+    old_is = same_by_lines k.old.now q.client b q.user q.user q.topic q.topic q.direction old_lines
+
+    new_is : new_reason k.new.now q ≡ new_reason k.new.now (asked_by b q)
+    new_is = same_by_lines k.new.now q.client b q.user q.user q.name q.name q.direction new_lines
+
+    old_may : old_allows k.old.now q ≡ old_allows k.old.now (asked_by b q)
+    old_may = allows_by_reason k.old.now q.client q.user q.topic q.direction ∙ ap is_grant old_is
+        ∙ sym (allows_by_reason k.old.now b q.user q.topic q.direction)
+
+    new_may : new_allows k.new.now q ≡ new_allows k.new.now (asked_by b q)
+    new_may = allows_by_reason k.new.now q.client q.user q.name q.direction ∙ ap is_grant new_is
+        ∙ sym (allows_by_reason k.new.now b q.user q.name q.direction)
+
+-- so it is of the lists that were made last
+pub tried_again : (k : Comparison) (region : Region) (last : Option Made) (c : List ℕ) (n : Made)
+    (all : List Renamed) → IsPart k.plan.now region → IsTried k region last all
+    → IsLastMade last n → IsMade k region c n
+    → TellsIn k.plan.now k.old.now k.new.now region c all
+tried_again k region None c n all part tried same made = absurd same
+tried_again k region (Some m) c n all part tried same made =
+    told_again k region tried.0 c m n all part tried.1 tried.2 made same.0 same.1 tried.3

@@ -1,0 +1,11 @@
+use Rattle.std.proofs.Common.{lit<, rules, tests, bytes_eq}
+use Rattle.std.specs.Prelude.{codes}
+use Rattle.std.proofs.lemmas.Iterator.Splits.{YieldsList-from_str_split}
+use Rattle.std.proofs.lemmas.Iterator.Search.{any_from_yields_List}
+use Rattle.mq_through.proofs.named.has_client_level.Goals as goal
+
+pub returns : goal.returns
+returns c =
+    any_from_yields_List (bytes_eq (codes "%c")) _ _ _ c.any.ensures.ran
+    (YieldsList-from_str_split 47 c.args.filter.now (lit< tt) c.split.ensures.text
+    c.split.ensures.has_more c.split.ensures.pattern) (λ x b q k. search (rules, tests))

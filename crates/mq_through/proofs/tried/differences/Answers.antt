@@ -1,0 +1,7 @@
+use Rattle.mq_through.proofs.FaultLemmas.{compare_stops}
+use Rattle.mq_through.proofs.tried.differences.Goals as goal
+
+pub stop-requires : goal.stop-requires
+stop-requires c =
+    compare_stops c.args.old.now c.args.new.now c.args.steps c.in-Err.fault c.requires.old
+    c.requires.new c.in-Err.ensures.fault

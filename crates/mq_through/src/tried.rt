@@ -1,0 +1,232 @@
+//! What changes for the client ids that are tried.
+ghost use Rattle.std.specs.Prelude.{◌≡◌, All, IfOk, IfErr, OnOk, false, true};
+ghost use Rattle.std.specs.Option.{option_copied};
+ghost use Rattle.mq_acl.specs.Views.{row_views};
+ghost use Rattle.mq_acl.specs.declared.rules.Rules.TheVariants as rules;
+ghost use Rattle.mq_findings.specs.Differences.{IsReal, TellsAll};
+ghost use Rattle.mq_findings.specs.declared.class.Class.{Class};
+ghost use Rattle.mq_regions.specs.Limits.{has_long_row};
+ghost use Rattle.mq_through.specs.Checks.{IsThroughFault};
+ghost use Rattle.mq_through.specs.Made.{HasRule, IsClient, IsComparison, IsNameFault, IsRenamed};
+ghost use Rattle.mq_through.specs.Made.{IsCompareStop, IsMade, IsStop, class_in};
+ghost use Rattle.mq_through.specs.Parts.{AreParts, IsPart};
+ghost use Rattle.mq_through.specs.Through as through;
+ghost use Rattle.mq_through.specs.Tried.{AreClients, Grows, IsLastMade, IsTried, TellsIn};
+ghost use Rattle.mq_through.specs.Tried.{TellsTried, TellsTriedIn};
+
+use crate::fault::ThroughFault;
+use crate::like::add;
+use crate::lists::{Comparison, has_user};
+use crate::made::Made;
+use crate::made_up::unnamed_texts;
+use crate::renamed::Renamed;
+use mq_acl::{Row, Rules};
+use mq_findings::{Class, ComparisonFault, Difference, compare};
+use mq_regions::Region;
+use std::alloc::Global;
+use std::mem;
+
+fn class_of_user(users: &[&str], name: String) -> Class
+    ensures { result ≡ class_in users.now (Class.User name) }
+{
+    if has_user(users, name.as_str()) {
+        Class::User(name)
+    } else {
+        Class::Others(name)
+    }
+}
+
+// The class in the lists that are compared: a user name that only the made rows are for is one of others.
+fn class_in(users: &[&str], class: Class) -> Class
+    ensures { result ≡ class_in users.now class }
+{
+    match class {
+        Class::User(name) => class_of_user(users, name),
+        other => other,
+    }
+}
+
+// What is said where lists without long rows can't be compared.
+fn stop(fault: ComparisonFault) -> ThroughFault
+    requires { IsCompareStop fault }
+    ensures { IsStop result }
+{
+    match fault {
+        ComparisonFault::Memory => ThroughFault::Memory,
+        ComparisonFault::GaveUp(_, _, _) => ThroughFault::GaveUp,
+        ComparisonFault::OldLine(_) => unreachable!(),
+        ComparisonFault::NewLine(_) => unreachable!(),
+        ComparisonFault::OldMark(_) => unreachable!(),
+        ComparisonFault::NewMark(_) => unreachable!(),
+    }
+}
+
+// Where the made lists differ; they have no long rows.
+fn differences(
+    alloc: Global,
+    old: &[Row],
+    new: &[Row],
+    steps: u64,
+) -> Result<Vec<Difference>, ThroughFault>
+    requires old { has_long_row (row_views old.now) ≡ false }
+    requires new { has_long_row (row_views new.now) ≡ false }
+    ensures every { IfOk result (λ all. TellsAll rules.Own old.now new.now all.items) }
+    ensures real { IfOk result (λ all. All (IsReal rules.Own old.now new.now) all.items) }
+    ensures fault { IfErr result IsStop }
+{
+    match compare(alloc, Rules::Own, old, new, steps) {
+        Ok(all) => Ok(all),
+        Err(fault) => Err(stop(fault)),
+    }
+}
+
+// The difference, of this client, with the new name of its topic.
+fn renamed(
+    alloc: Global,
+    comparison: &Comparison,
+    client: &str,
+    mut difference: Difference,
+) -> Result<Renamed, ThroughFault>
+    requires { HasRule comparison.now.plan.now difference.topic }
+    ensures renamed { IfOk result (IsRenamed comparison.now.plan.now comparison.now.old.now
+        comparison.now.new.now client.now comparison.now.users.items difference) }
+    ensures fault { IfErr result (IsNameFault comparison.now.plan.now difference.topic) }
+{
+    let plan = comparison.plan;
+    let rule = plan.rule_line(&difference.topic);
+    let Some(new_topic) = plan.new_name(alloc, &difference.topic)? else {
+        return match rule {
+            Some(line) => Err(ThroughFault::LongName(line)),
+            None => unreachable!(),
+        };
+    };
+    let user = difference.class.user();
+    let made_up = unnamed_texts(alloc, comparison, client, user, &difference.topic)?;
+    difference.made_up = made_up;
+    difference.client = String::from_str(alloc, client)?;
+    let class = mem::replace(&mut difference.class, Class::Anonymous);
+    difference.class = class_in(&comparison.users, class);
+    Ok(Renamed {
+        difference,
+        new_topic,
+        rule,
+    })
+}
+
+// Adds what changes for this client in the region, by these lists.
+fn add_client(
+    alloc: Global,
+    found: &mut Vec<Renamed>,
+    comparison: &Comparison,
+    region: &Region,
+    client: &str,
+    made: &Made,
+) -> Result<(), ThroughFault>
+    requires comparison { IsComparison comparison.now }
+    requires region { IsPart comparison.now.plan.now region.now }
+    requires client { IsClient client.now }
+    requires made { IsMade comparison.now region.now client.now made.now }
+    ensures grows { OnOk result (Grows comparison.now.plan.now comparison.now.old.now
+        comparison.now.new.now found.old.items found.new.items) }
+    ensures told { OnOk result (TellsIn comparison.now.plan.now comparison.now.old.now
+        comparison.now.new.now region.now client.now found.new.items) }
+    ensures fault { IfErr result (IsThroughFault comparison.now.plan.now comparison.now.old.now
+        comparison.now.new.now) }
+{
+    for difference in differences(alloc, &made.old, &made.new, comparison.steps)? {
+        let renamed = renamed(alloc, comparison, client, difference)?;
+        add(found, renamed)?;
+    }
+    Ok(())
+}
+
+// Whether these lists were made last, for another client.
+fn is_last(last: Option<&Made>, made: &Made) -> bool
+    ensures { result ≡ true → IsLastMade (option_copied last.entry) made.now }
+{
+    match last {
+        Some(last) => last.is_same(made),
+        None => false,
+    }
+}
+
+// Adds what changes for the next client in the region. Where the lists that are made for it are the
+// last ones, that was added.
+fn add_next(
+    alloc: Global,
+    found: &mut Vec<Renamed>,
+    comparison: &Comparison,
+    region: &Region,
+    client: &str,
+    last: Option<&Made>,
+) -> Result<Made, ThroughFault>
+    requires comparison { IsComparison comparison.now }
+    requires region { IsPart comparison.now.plan.now region.now }
+    requires client { IsClient client.now }
+    requires last { IsTried comparison.now region.now (option_copied last) found.old.items }
+    ensures grows { OnOk result (Grows comparison.now.plan.now comparison.now.old.now
+        comparison.now.new.now found.old.items found.new.items) }
+    ensures told { OnOk result (TellsIn comparison.now.plan.now comparison.now.old.now
+        comparison.now.new.now region.now client.now found.new.items) }
+    ensures made { IfOk result (IsMade comparison.now region.now client.now) }
+    ensures fault { IfErr result (IsThroughFault comparison.now.plan.now comparison.now.old.now
+        comparison.now.new.now) }
+{
+    let made = Made::of(alloc, comparison, region, client)?;
+    if is_last(last, &made) {
+        return Ok(made);
+    }
+    add_client(alloc, found, comparison, region, client, &made)?;
+    Ok(made)
+}
+
+// Adds what changes for these clients in the region.
+fn add_region(
+    alloc: Global,
+    found: &mut Vec<Renamed>,
+    comparison: &Comparison,
+    region: &Region,
+    clients: &[&str],
+) -> Result<(), ThroughFault>
+    requires comparison { IsComparison comparison.now }
+    requires region { IsPart comparison.now.plan.now region.now }
+    requires clients { AreClients clients.now }
+    ensures grows { OnOk result (Grows comparison.now.plan.now comparison.now.old.now
+        comparison.now.new.now found.old.items found.new.items) }
+    ensures told { OnOk result (TellsTriedIn comparison.now.plan.now comparison.now.old.now
+        comparison.now.new.now region.now clients.now found.new.items) }
+    ensures fault { IfErr result (IsThroughFault comparison.now.plan.now comparison.now.old.now
+        comparison.now.new.now) }
+{
+    let mut last: Option<Made> = None;
+    for client in clients {
+        let made = add_next(alloc, found, comparison, region, client, last.as_ref())?;
+        last = Some(made);
+    }
+    Ok(())
+}
+
+/// What changes for these clients.
+pub(crate) fn compare_tried(
+    alloc: Global,
+    comparison: &Comparison,
+    regions: &[Region],
+    clients: &[&str],
+) -> Result<Vec<Renamed>, ThroughFault>
+    requires comparison { IsComparison comparison.now }
+    requires regions { AreParts comparison.now.plan.now regions.now }
+    requires clients { AreClients clients.now }
+    ensures real { IfOk result (λ all. All (through.IsReal comparison.now.plan.now
+        comparison.now.old.now comparison.now.new.now) all.items) }
+    ensures once { IfOk result (λ all. through.AreApart all.items) }
+    ensures told { IfOk result (λ all. TellsTried comparison.now.plan.now comparison.now.old.now
+        comparison.now.new.now clients.now all.items) }
+    ensures fault { IfErr result (IsThroughFault comparison.now.plan.now comparison.now.old.now
+        comparison.now.new.now) }
+{
+    let mut found = Vec::new(alloc);
+    for region in regions {
+        add_region(alloc, &mut found, comparison, region, clients)?;
+    }
+    Ok(found)
+}
