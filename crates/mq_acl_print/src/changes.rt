@@ -1,12 +1,13 @@
 //! Where two lists differ, in words and as JSON.
-use crate::deciding::{Side, decision, line_if};
+use crate::change_rows::{ChangeRow, change_table};
+use crate::deciding::{decision, line_if};
 use crate::json::{Datum, add_object};
 use crate::list::{Lines, ListText, lines_of};
 use crate::placeholders::shown_topic;
 use crate::published::{ScriptTraffic, add_counts, add_pattern, publishes_text};
-use crate::table::{add_cell, widened};
-use crate::who::{add_who, group_text};
-use mq_acl::{Direction, Row, Rules};
+use crate::who::group_text;
+use crate::words::{access_word, rows_word, way_word};
+use mq_acl::{Row, Rules};
 use mq_findings::{Difference, Group, Way, gather};
 use mq_topic::LevelText;
 use mq_traffic::Publishes;
@@ -53,191 +54,36 @@ pub struct Scope<'a> {
     pub coloured: bool,
 }
 
-// What ends a colour.
-const PLAIN: &str = "\u{1b}[0m";
-
-// A group of differences in words.
-struct ChangeRow<'a> {
-    who: String,
-    way: Way,
-    access: &'static str,
-    topic: String,
-    old: Side<'a>,
-    new: Side<'a>,
-    publishes: Option<String>,
-}
-
-// Opaque to callers' proofs: one step, and not one for each field (docs/explanation/gate.md).
-impl Drop for ChangeRow<'_> {
-    fn drop(self) {
-        let ChangeRow {
-            who: _,
-            way: _,
-            access: _,
-            topic: _,
-            old: _,
-            new: _,
-            publishes: _,
-        } = self;
-    }
-}
-
-#[derive(Clone, Copy, Drop)]
-struct Widths {
-    access: usize,
-    place: usize,
-}
-
-fn access_words(direction: Direction, way: Way) -> &'static str {
-    match (direction, way) {
-        (Direction::Reading, Way::Gained) => "may now read",
-        (Direction::Writing, Way::Gained) => "may now write",
-        (Direction::Reading, Way::Lost) => "may no longer read",
-        (Direction::Writing, Way::Lost) => "may no longer write",
-    }
-}
-
-fn words_of_publishes(
+// The file of the script, and how many of its publishes the difference is about.
+fn publishes_of<'a>(
     alloc: Global,
-    scope: Scope<'_>,
+    scope: Scope<'a>,
     difference: &Difference,
-) -> Result<Option<String>, AllocError> {
+) -> Result<Option<(&'a str, String)>, AllocError> {
     match scope.traffic {
-        Some(traffic) => Ok(Some(traffic.words(alloc, difference)?)),
+        Some(traffic) => Ok(Some((traffic.script.file, traffic.words(alloc, difference)?))),
         None => Ok(None),
     }
 }
 
 fn change_row<'a>(
     alloc: Global,
-    scope: Scope<'_>,
+    scope: Scope<'a>,
     old: Lines<'a, 'a, 'a>,
     new: Lines<'a, 'a, 'a>,
     group: &'a Group,
 ) -> Result<ChangeRow<'a>, AllocError> {
     let difference = &group.first;
+    let old = decision(alloc, old, difference.old_reason)?;
+    let new = decision(alloc, new, difference.new_reason)?;
     Ok(ChangeRow {
         who: group_text(alloc, group)?,
         way: difference.way,
-        access: access_words(difference.direction, difference.way),
+        direction: difference.direction,
         topic: shown_topic(alloc, difference)?,
-        old: decision(alloc, old, difference.old_reason)?,
-        new: decision(alloc, new, difference.new_reason)?,
-        publishes: words_of_publishes(alloc, scope, difference)?,
+        sides: vec![in alloc; old, new]?,
+        publishes: publishes_of(alloc, scope, difference)?,
     })
-}
-
-fn widths_of(scope: Scope<'_>, rows: &[ChangeRow<'_>]) -> Widths {
-    let mut widths = Widths {
-        access: 0,
-        place: 0,
-    };
-    if let Some(traffic) = scope.traffic {
-        widths.place = widened(0, traffic.script.file);
-    }
-    for row in rows {
-        widths.access = widened(widths.access, row.access);
-        widths.place = widened(widths.place, row.old.place.as_str());
-        widths.place = widened(widths.place, row.new.place.as_str());
-    }
-    widths
-}
-
-fn add_side(text: &mut String, side: &Side<'_>, width: usize) -> Result<(), AllocError> {
-    text.push_str("    ")?;
-    add_cell(text, side.place.as_str(), width)?;
-    text.push_str(side.words)?;
-    text.push('\n')
-}
-
-// The terminal's colour for it: green, or red.
-fn colour_of(way: Way) -> &'static str {
-    match way {
-        Way::Gained => "\u{1b}[32m",
-        Way::Lost => "\u{1b}[31m",
-    }
-}
-
-fn add_access(
-    text: &mut String,
-    row: &ChangeRow<'_>,
-    width: usize,
-    coloured: bool,
-) -> Result<(), AllocError> {
-    if !coloured {
-        return add_cell(text, row.access, width);
-    }
-    text.push_str(colour_of(row.way))?;
-    add_cell(text, row.access, width)?;
-    text.push_str(PLAIN)
-}
-
-fn add_head(
-    text: &mut String,
-    row: &ChangeRow<'_>,
-    widths: Widths,
-    coloured: bool,
-) -> Result<(), AllocError> {
-    text.push_str("  ")?;
-    add_access(text, row, widths.access, coloured)?;
-    text.push_str(row.topic.as_str())?;
-    text.push('\n')
-}
-
-// Adds how many publishes it is about at most, if they are counted.
-fn add_publishes(
-    text: &mut String,
-    scope: Scope<'_>,
-    row: &ChangeRow<'_>,
-    width: usize,
-) -> Result<(), AllocError> {
-    let (Some(traffic), Some(publishes)) = (scope.traffic, &row.publishes) else {
-        return Ok(());
-    };
-    text.push_str("    ")?;
-    add_cell(text, traffic.script.file, width)?;
-    text.push_str(publishes.as_str())?;
-    text.push('\n')
-}
-
-fn add_row(
-    text: &mut String,
-    scope: Scope<'_>,
-    row: &ChangeRow<'_>,
-    widths: Widths,
-) -> Result<(), AllocError> {
-    add_head(text, row, widths, scope.coloured)?;
-    add_side(text, &row.old, widths.place)?;
-    add_side(text, &row.new, widths.place)?;
-    add_publishes(text, scope, row, widths.place)
-}
-
-// What so many rows are.
-fn what(count: usize, only: Option<Way>) -> &'static str {
-    match only {
-        None if count == 1 => "difference",
-        None => "differences",
-        Some(Way::Gained) => "gained",
-        Some(Way::Lost) => "lost",
-    }
-}
-
-fn table(alloc: Global, scope: Scope<'_>, rows: &[ChangeRow<'_>]) -> Result<String, AllocError> {
-    let widths = widths_of(scope, rows);
-    let mut text = String::new(alloc);
-    let mut who = "";
-    for row in rows {
-        who = add_who(&mut text, who, row.who.as_str())?;
-        add_row(&mut text, scope, row, widths)?;
-    }
-    let count = rows.len();
-    let what = what(count, scope.only);
-    let whose = match scope.rules {
-        Rules::Own => "",
-        Rules::Mosquitto => " by mosquitto's rules",
-    };
-    writeln!(text, "{count} {what}{whose}")?;
-    Ok(text)
 }
 
 fn add_json<'a>(
@@ -248,19 +94,11 @@ fn add_json<'a>(
     new: Lines<'a, 'a, 'a>,
     difference: &'a Difference,
 ) -> Result<(), AllocError> {
-    let access = match difference.direction {
-        Direction::Reading => "read",
-        Direction::Writing => "write",
-    };
-    let change = match difference.way {
-        Way::Gained => "gained",
-        Way::Lost => "lost",
-    };
     let old_line = line_if(old, difference.old_reason);
     let new_line = line_if(new, difference.new_reason);
     let mut data = vec![in alloc;
-        ("access", Datum::Text(access)),
-        ("change", Datum::Text(change)),
+        ("access", Datum::Text(access_word(difference.direction))),
+        ("change", Datum::Text(way_word(difference.way))),
         ("client", Datum::Text(difference.client.as_str())),
         ("new", Datum::LineIf(new_line)),
         ("old", Datum::LineIf(old_line)),
@@ -290,7 +128,7 @@ fn json_lines(
 
 fn words<'a>(
     alloc: Global,
-    scope: Scope<'_>,
+    scope: Scope<'a>,
     old: Lines<'a, 'a, 'a>,
     new: Lines<'a, 'a, 'a>,
     groups: &'a [Group],
@@ -299,7 +137,15 @@ fn words<'a>(
     for group in groups {
         rows.push(change_row(alloc, scope, old, new, group)?)?;
     }
-    table(alloc, scope, &rows)
+    let mut text = change_table(alloc, &rows, scope.coloured)?;
+    let count = rows.len();
+    let what = rows_word(count, scope.only);
+    let whose = match scope.rules {
+        Rules::Own => "",
+        Rules::Mosquitto => " by mosquitto's rules",
+    };
+    writeln!(text, "{count} {what}{whose}")?;
+    Ok(text)
 }
 
 // Adds that the lists allow the same, or that one of them allows nothing that the other doesn't.

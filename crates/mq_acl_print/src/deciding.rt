@@ -4,11 +4,11 @@ use mq_findings::Reason;
 use std::alloc::{AllocError, Global};
 
 /// What decides in a list.
-pub(crate) struct Side<'a> {
+pub struct Side<'a> {
     /// The file, with the number of the line that decides.
-    pub(crate) place: String,
+    pub place: String,
     /// The line, or that none allows it.
-    pub(crate) words: &'a str,
+    pub words: &'a str,
 }
 
 // Opaque to callers' proofs: one step, and not one for each field (docs/explanation/gate.md).
@@ -19,7 +19,7 @@ impl Drop for Side<'_> {
 }
 
 /// The line that decides, if one does.
-pub(crate) fn line_if<'a>(lines: Lines<'a, 'a, 'a>, reason: Reason) -> Option<Line<'a>> {
+pub fn line_if<'a>(lines: Lines<'a, 'a, 'a>, reason: Reason) -> Option<Line<'a>> {
     let number = reason.line()?;
     Some(Line {
         file: lines.file,
@@ -29,7 +29,7 @@ pub(crate) fn line_if<'a>(lines: Lines<'a, 'a, 'a>, reason: Reason) -> Option<Li
 }
 
 /// What decides, in words.
-pub(crate) fn decision<'a>(
+pub fn decision<'a>(
     alloc: Global,
     lines: Lines<'a, 'a, 'a>,
     reason: Reason,

@@ -3,6 +3,7 @@
 
 mod any_client;
 mod asked_client;
+mod change_rows;
 mod changes;
 mod deciding;
 mod explanation;
@@ -20,17 +21,21 @@ mod subscriptions;
 mod table;
 mod topic;
 mod who;
+mod words;
 
 pub use any_client::any_text;
 pub use asked_client::{AskedClient, unnamed_text};
+pub use change_rows::{ChangeRow, change_table};
 pub use changes::{ComparedTraffic, Scope, changes_text};
+pub use deciding::{Side, decision, line_if};
 pub use explanation::{AskedTopic, explanation_text};
 pub use faults::fault_words;
 pub use json::{Datum, add_object};
 pub use list::{Line, Lines, ListText, lines_of};
 pub use permissions::{Asked, ListTraffic, permissions_text};
-pub use placeholders::shown_topic;
+pub use placeholders::{add_client_id, add_topic, shown_topic};
 pub use published::ScriptTraffic;
 pub use subscriptions::subscriptions_text;
 pub use topic::{AskedFilter, topic_text};
-pub use who::who_text;
+pub use who::{group_text, who_text};
+pub use words::{access_word, rows_word, way_word};

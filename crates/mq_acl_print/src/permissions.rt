@@ -7,6 +7,7 @@ use crate::published::{ScriptTraffic, add_counts, add_pattern, publishes_text};
 use crate::refusals::Refusals;
 use crate::table::{add_cell, widened};
 use crate::who::add_who;
+use crate::words::access_word;
 use mq_acl::{Direction, Row};
 use mq_findings::Difference;
 use mq_topic::LevelText;
@@ -84,12 +85,8 @@ fn permission_data<'d>(
     granted: &'d Difference,
     exceptions: &'d [Exception<'d>],
 ) -> Result<Vec<(&'static str, Datum<'d>)>, AllocError> {
-    let access = match granted.direction {
-        Direction::Reading => "read",
-        Direction::Writing => "write",
-    };
     Ok(vec![in alloc;
-        ("access", Datum::Text(access)),
+        ("access", Datum::Text(access_word(granted.direction))),
         ("client", Datum::Text(granted.client.as_str())),
         ("every", Datum::Flag(exceptions.is_empty())),
         ("line", Datum::LineIf(line_if(list, granted.old_reason))),
@@ -235,8 +232,7 @@ fn nobody(alloc: Global, asked: Asked<'_>) -> Result<String, AllocError> {
     let filter = asked.filter;
     let other = if asked.of_others { "else " } else { "" };
     let access = match asked.access {
-        Some(Direction::Reading) => "read",
-        Some(Direction::Writing) => "write",
+        Some(direction) => access_word(direction),
         None => "read or write",
     };
     format!(in alloc; "nobody {other}may {access} a topic of {filter}\n")

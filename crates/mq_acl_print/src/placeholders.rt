@@ -1,7 +1,7 @@
 //! What stands for others in a difference, as it is shown: `<level>`, `<client id>`, `<user>`.
 use crate::made_up::is_made_up;
 use mq_findings::Difference;
-use mq_topic::LevelText;
+use mq_topic::{LevelText, TopicName};
 use std::alloc::{AllocError, Global};
 
 // What a text that stands for others is, of which a level of the topic is one.
@@ -60,8 +60,8 @@ fn shown_level<'a>(difference: &Difference, place: usize, level: &'a str) -> &'a
     placeholder(kind, is_hidden(level, place, kind))
 }
 
-// Adds the client id where it stands for itself alone.
-fn add_client(text: &mut String, difference: &Difference) -> Result<(), AllocError> {
+/// Adds the client id where it stands for itself alone.
+pub fn add_client_id(text: &mut String, difference: &Difference) -> Result<(), AllocError> {
     let client = difference.client.as_str();
     if is_made_up(difference, client) {
         return Ok(());
@@ -69,16 +69,25 @@ fn add_client(text: &mut String, difference: &Difference) -> Result<(), AllocErr
     write!(text, "  client id: {client:?}")
 }
 
-/// The topic of a difference, with what its levels stand for in their places, and the client id
-/// where it stands for itself alone.
-pub fn shown_topic(alloc: Global, difference: &Difference) -> Result<String, AllocError> {
-    let mut text = String::new(alloc);
-    for (place, level) in difference.topic.text().split('/').enumerate() {
+/// Adds this topic, with what its levels stand for in their places.
+pub fn add_topic(
+    text: &mut String,
+    difference: &Difference,
+    topic: &TopicName,
+) -> Result<(), AllocError> {
+    for (place, level) in topic.text().split('/').enumerate() {
         if place > 0 {
             text.push('/')?;
         }
         text.push_str(shown_level(difference, place, level))?;
     }
-    add_client(&mut text, difference)?;
+    Ok(())
+}
+
+/// The topic of a difference, and the client id where it stands for itself alone.
+pub fn shown_topic(alloc: Global, difference: &Difference) -> Result<String, AllocError> {
+    let mut text = String::new(alloc);
+    add_topic(&mut text, difference, &difference.topic)?;
+    add_client_id(&mut text, difference)?;
     Ok(text)
 }

@@ -1,15 +1,12 @@
 //! What isn't allowed, by whom it isn't.
-use mq_acl::Direction;
+use crate::words::access_word;
 use mq_findings::{Class, Difference};
 use std::alloc::{AllocError, Global};
 use std::collections::BTreeMap;
 
 // The same for all of a class and a direction.
 fn key_of(alloc: Global, difference: &Difference) -> Result<String, AllocError> {
-    let access = match difference.direction {
-        Direction::Reading => "read",
-        Direction::Writing => "write",
-    };
+    let access = access_word(difference.direction);
     match &difference.class {
         Class::Anonymous => format!(in alloc; "{access} anonymous"),
         Class::User(name) => format!(in alloc; "{access} user {name}"),

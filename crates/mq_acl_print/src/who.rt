@@ -112,7 +112,7 @@ pub fn who_text(alloc: Global, all: &[&Difference]) -> Result<String, AllocError
 }
 
 /// The clients of a group, in words.
-pub(crate) fn group_text(alloc: Global, group: &Group) -> Result<String, AllocError> {
+pub fn group_text(alloc: Global, group: &Group) -> Result<String, AllocError> {
     let mut all = vec![in alloc; &group.first]?;
     for other in &group.others {
         all.push(other)?;
