@@ -7,6 +7,7 @@ import random
 import subprocess
 
 from asked_lists import cases_of, faults_of_notes, faults_of_who, number_of
+from changed_plans import faults_of_plan
 from claimed_lists import faults_of_any, faults_of_claims
 from counted_publishes import faults_of_counts
 from plain_lists import accesses, allowed, deciding, filter_matches, rows_of
@@ -378,5 +379,8 @@ def faults_of_random(rules, folder, count):
                           rows_of(old), CASES),
             faults_of_counts(rules, run, folder, chance, TOPICS, random_filter(chance, True),
                              [rows_of(old), rows_of(new)], CASES))
+        if not rules.words:
+            faults = itertools.chain(
+                faults, faults_of_plan(run, folder, chance, rows_of(old), rows_of(new), CASES))
         for fault in faults:
             yield f"seed {seed}: {' '.join(rules.words)} {fault}\n{old}\n--\n{new}"

@@ -68,7 +68,7 @@ differ_of rules old new (d ∷ ds) some real =
           (user_of d.class) d.topic d.direction is.change;
     }
 
-way_is : (a b : Way) → same_way a b ≡ true → a ≡ b
+pub way_is : (a b : Way) → same_way a b ≡ true → a ≡ b
 way_is Gained Gained e = refl
 way_is Gained Lost e = absurd (true≢false (sym e))
 way_is Lost Gained e = absurd (true≢false (sym e))
@@ -110,7 +110,7 @@ none_told : (all : List Difference) → list_any (λ d. is_way None d.way) all �
 none_told [] none = refl
 none_told (d ∷ ds) none = absurd (true≢false none)
 
-not_true : (b : Bool) → ¬ (b ≡ true) → b ≡ false
+pub not_true : (b : Bool) → ¬ (b ≡ true) → b ≡ false
 not_true true never = absurd (never refl)
 not_true false never = refl
 

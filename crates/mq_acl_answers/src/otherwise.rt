@@ -137,7 +137,7 @@ pub fn add_otherwise<'a>(
 }
 
 /// Notes it of each of two lists, which may be the same.
-pub(crate) fn add_otherwise_of_two<'a>(
+pub fn add_otherwise_of_two<'a>(
     alloc: Global,
     notes: &mut String,
     old: ListText<'a, '_>,

@@ -72,6 +72,10 @@ only_option = option (codes "only")
 abbrev pub script_option : Rule
 script_option = option (codes "script")
 
+-- `--plan PLAN`
+abbrev pub plan_option : Rule
+plan_option = option (codes "plan")
+
 -- `--any FILTER`
 abbrev pub any_option : Rule
 any_option = option (codes "any")
@@ -80,12 +84,12 @@ any_option = option (codes "any")
 abbrev pub junit_option : Rule
 junit_option = option (codes "junit")
 
--- `compare OLD NEW [--only WAY] [--script SCRIPT] [--steps N] [--rules RULES] [--json]`
+-- `compare OLD NEW [--plan PLAN] [--only WAY] [--script SCRIPT] [--steps N] [--rules RULES] [--json]`
 abbrev pub compare : App
 compare =
     with_rules (new_app (codes "compare"))
     (required_argument (codes "OLD") ∷ json_flag ∷ required_argument (codes "NEW")
-    ∷ only_option ∷ script_option ∷ steps_option ∷ rules_option ∷ [])
+    ∷ plan_option ∷ only_option ∷ script_option ∷ steps_option ∷ rules_option ∷ [])
 
 -- `why FILE CLIENT TOPIC [--user NAME] [--may ACCESS] [--rules RULES] [--json]`
 abbrev pub why : App
@@ -140,6 +144,7 @@ pub record ClientAsked : Type 0 where
 
 pub data Asked : Type 0 where
   Compare : (old new : Text) (only : Option Way) (script : Option Text) → Asked
+  Through : (old new plan : Text) (only : Option Way) → Asked
   Why : (file : Text) (client : ClientAsked) (topic : Text) (may : Option Direction) → Asked
   Lint : (files : List Text) → Asked
   Reach : (file : Text) (client : ClientAsked) (filter : Text) → Asked
@@ -164,10 +169,22 @@ abbrev pub compare_asked : (old new : Option Text) → Option (Option Way) → (
 compare_asked (Some old) (Some new) (Some only) script = Some (Compare old new only script)
 compare_asked old new only script = None
 
+-- through a plan: no script stands beside it
+abbrev pub through_asked : (old new : Option Text) → Option (Option Way) → (script : Option Text)
+    → (plan : Text) → Option Asked
+through_asked (Some old) (Some new) (Some only) None plan = Some (Through old new plan only)
+through_asked old new only script plan = None
+
+-- of two lists, or of two lists through a plan
+abbrev pub compared_asked : (old new : Option Text) → Option (Option Way)
+    → (script plan : Option Text) → Option Asked
+compared_asked old new only script None = compare_asked old new only script
+compared_asked old new only script (Some plan) = through_asked old new only script plan
+
 abbrev pub compare_asked_by : List Row → Option Asked
 compare_asked_by rows =
-    compare_asked (first_of (codes "OLD") rows) (first_of (codes "NEW") rows) (way_asked rows)
-    (first_of (codes "script") rows)
+    compared_asked (first_of (codes "OLD") rows) (first_of (codes "NEW") rows) (way_asked rows)
+    (first_of (codes "script") rows) (first_of (codes "plan") rows)
 
 abbrev pub lint_asked : (files : Option (List Text)) → Option Asked
 lint_asked files = option_map Lint files
@@ -295,6 +312,7 @@ reach_view file (about.In script) = ReachAll file script.now
 abbrev pub question_view : Question → Asked
 question_view (asks.Compare old new only script) =
     Compare old.now new.now only (option_copied script)
+question_view (asks.Through old new plan only) = Through old.now new.now plan.now only
 question_view (asks.Why file client topic may) =
     Why file.now (client_view client) topic.now may
 question_view (asks.Lint files) = Lint (map (λ file. file.now) files.items)
@@ -340,6 +358,7 @@ GivesAsked subcommand None = asked_by subcommand ≡ None
 -- the files that a question names
 abbrev pub files_of : Asked → List Text
 files_of (Compare old new only script) = old ∷ new ∷ script_file script
+files_of (Through old new plan only) = old ∷ new ∷ plan ∷ []
 files_of (Why file client topic may) = file ∷ []
 files_of (Lint files) = files
 files_of (Reach file client filter) = file ∷ []

@@ -12,10 +12,10 @@ ghost use Rattle.mq_acl_args.specs.CommandLine.{IsFaultOf};
 use crate::help::{
     ABOUT, ACCESS_HELP, AFTER_HELP, ANY_HELP, CLIENT_HELP, COMPARE_ABOUT, COMPARE_AFTER_HELP,
     EXPECTED_HELP, FILE_HELP, FILES_HELP, FILTER_HELP, JSON_HELP, JUNIT_HELP, LINT_ABOUT,
-    LINT_AFTER_HELP, LISTS_HELP, MAY_HELP, NEW_HELP, OLD_HELP, ONLY_HELP, PUBLISHES_HELP,
-    REACH_ABOUT, REACH_AFTER_HELP, RULES_HELP, SCRIPT_HELP, STEPS_HELP, SUBSCRIBER_HELP,
-    TEST_ABOUT, TEST_AFTER_HELP, TOPIC_HELP, USER_HELP, WANTED_HELP, WAY_HELP, WHO_ABOUT,
-    WHO_AFTER_HELP, WHY_ABOUT, WHY_AFTER_HELP,
+    LINT_AFTER_HELP, LISTS_HELP, MAY_HELP, NEW_HELP, OLD_HELP, ONLY_HELP, PLAN_HELP,
+    PUBLISHES_HELP, REACH_ABOUT, REACH_AFTER_HELP, RULES_HELP, SCRIPT_HELP, STEPS_HELP,
+    SUBSCRIBER_HELP, TEST_ABOUT, TEST_AFTER_HELP, TOPIC_HELP, USER_HELP, WANTED_HELP, WAY_HELP,
+    WHO_ABOUT, WHO_AFTER_HELP, WHY_ABOUT, WHY_AFTER_HELP,
 };
 use crate::request::{Request, request_in};
 use crate::unknown::{unknown_access, unknown_rules, unknown_way};
@@ -23,11 +23,18 @@ use clap::{ArgMatches, Command, Error};
 use mq_args::{Argument, ArgumentKind, UsageFault, described, with_arguments};
 use std::alloc::{AllocError, Global};
 
-// Said of words that ask nothing and that `clap` takes all the same, which `reach` alone has.
+// Said of words of `reach` that ask nothing and that `clap` takes all the same.
 const NO_QUESTION: &str = "\
 error: reach takes CLIENT and FILTER, or --any FILTER, or --script SCRIPT without --user
 
 For more information, try 'mqroute-acl reach --help'.
+";
+
+// The same of `compare`.
+const PLAN_AND_SCRIPT: &str = "\
+error: compare takes --plan or --script, but not both
+
+For more information, try 'mqroute-acl compare --help'.
 ";
 
 // Said of words that name standard input more than once.
@@ -56,7 +63,7 @@ impl<'a> Subcommand<'a> {
     }
 }
 
-// `compare OLD NEW [--only WAY] [--script SCRIPT] [--steps N] [--rules RULES] [--json]`
+// `compare OLD NEW [--plan PLAN] [--only WAY] [--script SCRIPT] [--steps N] [--rules RULES] [--json]`
 const COMPARE: Subcommand<'static> = Subcommand {
     name: "compare",
     about: COMPARE_ABOUT,
@@ -65,6 +72,7 @@ const COMPARE: Subcommand<'static> = Subcommand {
         Argument("OLD", ArgumentKind::Required, OLD_HELP),
         Argument("json", ArgumentKind::Flag, JSON_HELP),
         Argument("NEW", ArgumentKind::Required, NEW_HELP),
+        Argument("plan", ArgumentKind::Option("PLAN"), PLAN_HELP),
         Argument("only", ArgumentKind::Option("WAY"), WAY_HELP),
         Argument("script", ArgumentKind::Option("SCRIPT"), PUBLISHES_HELP),
         Argument("steps", ArgumentKind::Number, STEPS_HELP),
@@ -195,6 +203,14 @@ fn usage_of(alloc: Global, text: &str) -> UsageFault
     }
 }
 
+// What is said of words of this subcommand that ask nothing.
+fn no_question_words(matches: &ArgMatches<'_>) -> &'static str {
+    match matches.subcommand() {
+        Some(("compare", _)) => PLAN_AND_SCRIPT,
+        _ => NO_QUESTION,
+    }
+}
+
 // Says why what is asked by these values is nothing: a word is unknown, or there is no question.
 fn no_question(alloc: Global, matches: &ArgMatches<'_>) -> UsageFault
     ensures { (words : List Text) → (kinds : Kinds)
@@ -209,7 +225,7 @@ fn no_question(alloc: Global, matches: &ArgMatches<'_>) -> UsageFault
     }
     match unknown_access(matches) {
         Some((word, option)) => UsageFault::of_value(alloc, word, option, "read, write"),
-        None => usage_of(alloc, NO_QUESTION),
+        None => usage_of(alloc, no_question_words(matches)),
     }
 }
 

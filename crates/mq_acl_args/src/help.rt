@@ -56,6 +56,9 @@ pub(crate) const JSON_HELP: &str = "Write JSON, one object a line";
 pub(crate) const PUBLISHES_HELP: &str =
     "Count the publishes of this script, or of standard input (-), that each is about at most";
 
+pub(crate) const PLAN_HELP: &str =
+    "Compare what OLD says of a topic with what NEW says of its new name by this plan (-)";
+
 pub(crate) const COMPARE_ABOUT: &str = "Shows what one list allows and the other doesn't";
 
 pub(crate) const COMPARE_AFTER_HELP: &str = "\
@@ -68,6 +71,13 @@ that no line names; at the front of a topic they don't begin with $.
 
 --only gained shows what the new list allows and the old one doesn't, --only lost
 the opposite, and the status is of these alone.
+
+With --plan PLAN a client may by NEW read or write the new name of a topic exactly
+where it may by OLD the topic, or there is a difference. A topic is shown as OLD ->
+NEW, and the line of the plan that renames it. Topics without a new name are left
+out. A plan has lines FROM -> TO, keep FROM and none FROM; the first that matches a
+topic decides. In FROM a level +hall has a name, and TO uses it; a # at the end of
+both stands for the rest. By --rules mosquitto there is no answer.
 
 --script SCRIPT counts how many publishes of the script a difference is about at
 most: those to topics that the filters of its lines match, where %c and %u match
@@ -89,7 +99,11 @@ With --json each difference is an object with
             no line allows it
 With --json and --script it has too
   publishes  how many publishes of the script it is about at most
-  topics     how many topics these are to";
+  topics     how many topics these are to
+With --json and --plan it has too
+  new_topic  the new name of the topic
+  rule       the line of the plan that decides about the topic, with file, line
+             and text; or null, where none does";
 
 pub(crate) const WHY_ABOUT: &str =
     "Shows whether a client may read and write a topic, and by which line";

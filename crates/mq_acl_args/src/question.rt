@@ -54,6 +54,15 @@ pub enum Question<'a> {
         /// The file of a script whose publishes are counted, if one is given.
         script: Option<&'a str>,
     },
+    /// The same through a plan: of a topic by the old list, and of its new name by the new one.
+    Through {
+        old: &'a str,
+        new: &'a str,
+        /// The file of the plan.
+        plan: &'a str,
+        /// Of which differences alone it is told, if not of all.
+        only: Option<Way>,
+    },
     /// Which lines decide whether a client may read and write a topic.
     Why {
         file: &'a str,
@@ -106,6 +115,7 @@ impl Question<'_> {
                 script,
                 ..
             } => inputs_among(&[*old, *new]) + input_in(*script),
+            Question::Through { old, new, plan, .. } => inputs_among(&[*old, *new, *plan]),
             Question::Why { file, .. } => inputs_among(&[*file]),
             Question::Lint { files } => inputs_among(files.as_slice()),
             Question::Reach {

@@ -3,7 +3,8 @@ ghost use Rattle.std.specs.Prelude.{◌≡◌, [], Some, IfOk, codes, map, optio
 ghost use Rattle.std.specs.Option.{option_copied};
 ghost use Rattle.clap.specs.Words.{all_of, first_of, rows_of, found_of, subcommand_rows_of};
 ghost use Rattle.mq_acl_args.specs.CommandLine.{question_view, asked, GivesAsked};
-ghost use Rattle.mq_acl_args.specs.CommandLine.{all_asked, any_asked, compare_asked_by, lint_asked, one_asked};
+ghost use Rattle.mq_acl_args.specs.CommandLine.{all_asked, any_asked, compare_asked};
+ghost use Rattle.mq_acl_args.specs.CommandLine.{compare_asked_by, lint_asked, one_asked, through_asked};
 ghost use Rattle.mq_acl_args.specs.CommandLine.{reach_asked_by, rules_asked, some_asked};
 ghost use Rattle.mq_acl_args.specs.CommandLine.{access_asked, direction_named, steps_given, way_asked, way_named};
 ghost use Rattle.mq_acl_args.specs.CommandLine.{noted_given, test_asked_by};
@@ -60,9 +61,11 @@ fn way_in(matches: &ArgMatches<'_>) -> Option<Option<Way>>
     }
 }
 
-fn compare_in<'a>(matches: &ArgMatches<'a>) -> Option<Question<'a>>
-    ensures { option_map question_view result
-        ≡ compare_asked_by (rows_of (found_of matches.now)) }
+// Of two lists alone.
+fn compare_lists_in<'a>(matches: &ArgMatches<'a>) -> Option<Question<'a>>
+    ensures { let rows = rows_of (found_of matches.now) in option_map question_view result
+        ≡ compare_asked (first_of (codes "OLD") rows) (first_of (codes "NEW") rows)
+        (way_asked rows) (first_of (codes "script") rows) }
 {
     match (
         value(matches, "OLD"),
@@ -76,6 +79,38 @@ fn compare_in<'a>(matches: &ArgMatches<'a>) -> Option<Question<'a>>
             script: value(matches, "script"),
         }),
         _ => None,
+    }
+}
+
+// Through a plan: no script stands beside it.
+fn through_in<'a>(matches: &ArgMatches<'a>, plan: &'a str) -> Option<Question<'a>>
+    ensures { let rows = rows_of (found_of matches.now) in option_map question_view result
+        ≡ through_asked (first_of (codes "OLD") rows) (first_of (codes "NEW") rows)
+        (way_asked rows) (first_of (codes "script") rows) plan.entry.now }
+{
+    match (
+        value(matches, "OLD"),
+        value(matches, "NEW"),
+        way_in(matches),
+        value(matches, "script"),
+    ) {
+        (Some(old), Some(new), Some(only), None) => Some(Question::Through {
+            old,
+            new,
+            plan,
+            only,
+        }),
+        _ => None,
+    }
+}
+
+fn compare_in<'a>(matches: &ArgMatches<'a>) -> Option<Question<'a>>
+    ensures { option_map question_view result
+        ≡ compare_asked_by (rows_of (found_of matches.now)) }
+{
+    match value(matches, "plan") {
+        None => compare_lists_in(matches),
+        Some(plan) => through_in(matches, plan),
     }
 }
 

@@ -15,5 +15,6 @@ mod side;
 mod words;
 
 pub use fault::{PlanFault, PlanKind, Side};
+pub use line::{Entry, entry_of};
 pub use plan::Plan;
 pub use rule::{Act, PlanRule};

@@ -10,11 +10,16 @@ use crate::words::{is_blank, split_word, trimmed};
 
 /// What a line says, its sides as they are written.
 #[derive(Clone, Copy, Drop)]
-pub(crate) enum Entry<'a> {
+pub enum Entry<'a> {
+    /// Nothing: it is empty, or a comment.
     Skipped,
+    /// `FROM -> TO`.
     Renamed(&'a str, &'a str),
+    /// `keep FROM`.
     Kept(&'a str),
+    /// `none FROM`.
     Gone(&'a str),
+    /// None of these.
     Unread,
 }
 
@@ -94,8 +99,8 @@ fn split_arrow(text: &str, place: usize) -> (&str, &str)
     (trimmed(left), trimmed(right))
 }
 
-/// What the line says.
-pub(crate) fn entry_of(line: &str) -> Entry<'_>
+/// What the line says; a side may be empty, or no topic filter.
+pub fn entry_of(line: &str) -> Entry<'_>
     ensures { entry_view result ≡ entry_of line.entry.now }
 {
     let text = trimmed(line);

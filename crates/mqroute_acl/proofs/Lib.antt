@@ -1,4 +1,5 @@
 pub mod FilesLemmas
 pub mod ListFileLemmas
+pub mod PlanLemmas
 pub mod ProgramLemmas
 pub mod TestLemmas

@@ -3,7 +3,7 @@ use Rattle.std.proofs.Common.{ℕ, Bool, List, Option}
 use Rattle.mq_acl.specs.declared.rules.Rules.{Rules}
 use Rattle.mq_acl_answers.specs.declared.outcome.Outcome.{Outcome}
 use Rattle.mq_acl_args.specs.CommandLine.{Asked, Compare, Why, Lint, Reach, ReachAny}
-use Rattle.mq_acl_args.specs.CommandLine.{ReachAll, Who, Test}
+use Rattle.mq_acl_args.specs.CommandLine.{ReachAll, Through, Who, Test}
 use Rattle.mqroute_acl.specs.Program.{IsAnswer}
 
 -- where `other` follows from `quiet`, it holds of the answer too
@@ -13,6 +13,16 @@ pub answer-weaker : (rules : Rules) (noted : Bool) (input : Option (List ℕ)) (
     → IsAnswer rules noted input question outcome other
 answer-weaker rules noted input (Compare old new only script) outcome follows is =
     (is.0, is.1, is.2, is.3, is.4, λ own is_old is_new. follows (is.5 own is_old is_new))
+answer-weaker rules noted input (Through old new plan only) outcome follows is = (
+  is.0,
+  is.1,
+  is.2,
+  is.3,
+  is.4,
+  is.5,
+  is.6,
+  λ is_old is_new. follows (is.7 is_old is_new),
+)
 answer-weaker rules noted input (Why file client topic may) outcome follows is =
     (is.0, is.1, is.2, λ own plain. follows (is.3 own plain))
 answer-weaker rules noted input (Lint files) outcome follows is =

@@ -2,4 +2,5 @@ pub mod Files
 pub mod ListFile
 pub mod Lint
 pub mod Test
+pub mod Plan
 pub mod Program

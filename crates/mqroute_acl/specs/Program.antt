@@ -6,7 +6,7 @@ use Rattle.mq_acl.specs.declared.rules.Rules.TheVariants.{Own}
 use Rattle.mq_args.specs.declared.usage.UsageFault.{UsageFault}
 use Rattle.mq_args.specs.declared.usage.UsageFault.TheVariants.{Help, Usage, Memory}
 use Rattle.mq_acl_args.specs.CommandLine.{Asked, Compare, Why, Lint, Reach, ReachAny, ReachAll}
-use Rattle.mq_acl_args.specs.CommandLine.{Who, Test}
+use Rattle.mq_acl_args.specs.CommandLine.{Through, Who, Test}
 use Rattle.mq_acl_args.specs.CommandLine.{ReadsInputOnce}
 use Rattle.mq_acl_answers.specs.Answers.{IsCompared, IsExplained, IsReached}
 use Rattle.mq_acl_answers.specs.Notes.{IsQuiet}
@@ -17,6 +17,7 @@ use Rattle.mq_acl_answers.specs.Who.{IsWho}
 use Rattle.mq_acl_answers.specs.declared.outcome.Outcome.{Outcome}
 use Rattle.mqroute_acl.specs.Files.{IsTextOf}
 use Rattle.mqroute_acl.specs.Lint.{AreLinted}
+use Rattle.mqroute_acl.specs.Plan.{IsComparedThrough}
 use Rattle.mqroute_acl.specs.Test.{IsTested}
 
 -- the outcome is right for texts that the files may have, where the input holds this; and by our own rules `quiet` holds, but
@@ -27,6 +28,11 @@ IsAnswer rules noted input (Compare old new only script) outcome quiet = (old_te
     × IsTextOf input old old_text × IsTextOf input new new_text
     × IsCompared rules only old_text new_text outcome
     × (rules ≡ Own → IsQuiet noted old_text → IsQuiet noted new_text → quiet)
+IsAnswer rules noted input (Through old new plan only) outcome quiet =
+    (old_text new_text plan_text : List ℕ) × IsTextOf input old old_text
+    × IsTextOf input new new_text × IsTextOf input plan plan_text
+    × IsComparedThrough rules only old_text new_text plan_text outcome
+    × (IsQuiet noted old_text → IsQuiet noted new_text → quiet)
 IsAnswer rules noted input (Why file client topic may) outcome quiet = (text : List ℕ)
     × IsTextOf input file text
     × IsExplained rules may text client.id client.user topic outcome

@@ -4,6 +4,7 @@
 mod files;
 mod lint;
 mod list_file;
+mod plan;
 mod program;
 mod reach;
 mod test;

@@ -17,6 +17,7 @@ ghost use Rattle.mqroute_acl.specs.Program.{IsAnswer, IsAnswered, TellsUsage};
 
 use crate::files::{text_of, traffic_of};
 use crate::lint::answer_lint;
+use crate::plan::answer_through;
 use crate::reach::answer_reach;
 use crate::test::answer_test;
 use mq_acl::Direction;
@@ -168,6 +169,15 @@ fn answer<'a, R: Files, I: Read, W: Write>(
         } => {
             let files = (old, new, script);
             answer_compare(rt, alloc, files, only, options, input, out, notes)
+        }
+        Question::Through {
+            old,
+            new,
+            plan,
+            only,
+        } => {
+            let files = (old, new, plan);
+            answer_through(rt, alloc, files, only, options, input, out, notes)
         }
         Question::Why {
             file,

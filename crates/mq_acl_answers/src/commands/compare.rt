@@ -122,8 +122,8 @@ pub fn find_changes<'a>(
     }
 }
 
-// Whether it is asked of this way.
-fn is_way(only: Option<Way>, way: Way) -> bool
+/// Whether it is asked of this way.
+pub fn is_way(only: Option<Way>, way: Way) -> bool
     ensures { result ≡ is_way only way }
 {
     match (only, way) {

@@ -1,14 +1,8 @@
-use Rattle.std.proofs.Common.{sym, refl}
+use Rattle.std.proofs.Common.{sym}
 use Rattle.mq_acl_args.proofs.request.compare_in.Goals as goal
 
-pub returns-in-Some-Some-Some : goal.returns-in-Some-Some-Some
-returns-in-Some-Some-Some c =
-    rw (
-      sym c.value.ensures,
-      sym c.value-2.ensures,
-      sym c.value-in-Some-Some-Some.ensures,
-      sym c.way_in.ensures,
-      c.in-Some-Some-Some.is-0,
-      c.in-Some-Some-Some.is-1,
-      c.in-Some-Some-Some.is-2,
-    ) refl
+pub returns-in-Some : goal.returns-in-Some
+returns-in-Some c = rw (sym c.value.ensures, c.in-Some.is) c.through_in.ensures
+
+pub returns-in-None : goal.returns-in-None
+returns-in-None c = rw (sym c.value.ensures, c.in-None.is) c.compare_lists_in.ensures

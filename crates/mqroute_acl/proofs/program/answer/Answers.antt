@@ -6,6 +6,12 @@ returns-in-Compare-clause-ok g c = rw c.in-Compare.is c.answer_compare.ensures.o
 pub returns-in-Compare-clause-unread : goal.returns-in-Compare-clause-unread
 returns-in-Compare-clause-unread g c = c.answer_compare.ensures.unread
 
+pub returns-in-Through-clause-ok : goal.returns-in-Through-clause-ok
+returns-in-Through-clause-ok g c = rw c.in-Through.is c.answer_through.ensures.ok
+
+pub returns-in-Through-clause-unread : goal.returns-in-Through-clause-unread
+returns-in-Through-clause-unread g c = c.answer_through.ensures.unread
+
 pub returns-in-Why-clause-ok : goal.returns-in-Why-clause-ok
 returns-in-Why-clause-ok g c = rw c.in-Why.is c.answer_why.ensures.ok
 

@@ -1,0 +1,98 @@
+-- What a list of changes through a plan says of two lists.
+use Rattle.std.proofs.Common.{◌≡◌, ◌⊎◌, ◌∙◌, ◌<◌, ◌&&◌, suc, length, arith, ℕ, true, false}
+use Rattle.std.proofs.Common.{List, [], ◌∷◌, Option, All, refl, sym, subst, inl, inr, true≢false}
+use Rattle.std.proofs.lemmas.Bool.{and_parts, or_cases}
+use Rattle.mq_acl.specs.Views.{row_views}
+use Rattle.mq_acl.specs.declared.row.Row.{Row}
+use Rattle.mq_acl.specs.declared.rules.Rules.{Rules}
+use Rattle.mq_acl.specs.declared.rules.Rules.TheVariants.{Own}
+use Rattle.mq_findings.specs.Classes.{is_in}
+use Rattle.mq_findings.specs.Differences.{same_direction, same_reason, same_start, same_way}
+use Rattle.mq_findings.specs.declared.way.Way.{Way}
+use Rattle.mq_plan.specs.declared.rule.PlanRule.{PlanRule}
+use Rattle.mq_through.specs.Through.{IsReal, Question, TellsAll, is_changed, is_told_of}
+use Rattle.mq_through.specs.Through.{new_reason, old_reason, question_of, rule_line, same_line}
+use Rattle.mq_through.specs.declared.renamed.Renamed.{Renamed}
+use Rattle.mq_who.proofs.ExtentLemmas.{any_weaker}
+use Rattle.mq_acl_answers.specs.Answers.{is_way}
+use Rattle.mq_acl_answers.specs.declared.outcome.Outcome.{Outcome}
+use Rattle.mq_acl_answers.specs.declared.outcome.Outcome.TheVariants.{Clear, Remark}
+use Rattle.mq_acl_answers.proofs.CompareLemmas.{not_true, way_is}
+use Rattle.mq_acl_plan.specs.Renamed.{AreRenamed}
+use Rattle.mq_acl_plan.specs.declared.find.RenamedChanges.{RenamedChanges}
+use Rattle.mqroute_acl.specs.Plan.{IsComparedThrough, TellsThrough, has_way}
+
+-- where one is of a way that is asked about, something changes in it
+some_changes : (only : Option Way) (plan : List PlanRule) (old new : List Row)
+    (all : List Renamed) → has_way only all ≡ true → All (IsReal plan old new) all
+    → TellsThrough only plan old new Remark
+some_changes only plan old new [] some real = absurd (true≢false (sym some))
+some_changes only plan old new (r ∷ rs) some real =
+    at (λ rest. some_changes only plan old new rs rest (λ place e low. real (suc place) e
+    (let more : suc place < suc (length rs) = omega arith in more)))
+    (or_cases (is_way only r.difference.way) (has_way only rs) some)
+  where
+    at : (has_way only rs ≡ true → TellsThrough only plan old new Remark)
+        → (is_way only r.difference.way ≡ true) ⊎ (has_way only rs ≡ true)
+        → TellsThrough only plan old new Remark
+    at behind (inl this) =
+        let is : IsReal plan old new r =
+        real 0 r (let low : 0 < suc (length rs) = omega arith in low) in
+        (r.difference.way, question_of r, this, is.asked, is.change)
+    at behind (inr rest) = behind rest
+
+of_way : (only : Option Way) (plan : List PlanRule) (old new : List Row) (way : Way)
+    (q : Question) (r : Renamed) → is_way only way ≡ true
+    → is_told_of plan old new way q r ≡ true → is_way only r.difference.way ≡ true
+of_way only plan old new way q r asked is =
+    let class = is_in (row_views old) (row_views new) q.user r.difference.class in
+    let direction = same_direction q.direction r.difference.direction in
+    let ways = same_way way r.difference.way in
+    let start = same_start q.topic r.difference.topic in
+    let by_old = same_reason (old_reason old q) r.difference.old_reason in
+    let by_new = same_reason (new_reason new q) r.difference.new_reason in
+    let line = same_line (rule_line plan q.topic) r.rule in
+    let six = and_parts (class && direction && ways && start && by_old && by_new) line is in
+    let five = and_parts (class && direction && ways && start && by_old) by_new six.0 in
+    let four = and_parts (class && direction && ways && start) by_old five.0 in
+    let three = and_parts (class && direction && ways) start four.0 in
+    let two = and_parts (class && direction) ways three.0 in
+    subst (λ (w : Way). is_way only w ≡ true) (way_is way r.difference.way two.1) asked
+
+-- where none is of a way that is asked about, nothing changes in it
+none_changes : (only : Option Way) (plan : List PlanRule) (old new : List Row)
+    (all : List Renamed) → TellsAll plan old new all → has_way only all ≡ false
+    → TellsThrough only plan old new Clear
+none_changes only plan old new all every none way q asked is =
+    not_true (is_changed way old new q)
+    (λ changes. true≢false (sym (any_weaker (is_told_of plan old new way q)
+    (λ r. is_way only r.difference.way) (λ r told. of_way only plan old new way q r asked told) all
+    (every way q is changes)) ∙ none))
+
+told : (only : Option Way) (plan : List PlanRule) (old new : List Row) (all : List Renamed)
+    (outcome : Outcome) → TellsAll plan old new all → All (IsReal plan old new) all
+    → (outcome ≡ Clear → has_way only all ≡ false)
+    → (outcome ≡ Remark → has_way only all ≡ true) → TellsThrough only plan old new outcome
+told only plan old new all Clear every real none some =
+    none_changes only plan old new all every (none refl)
+told only plan old new all Remark every real none some =
+    some_changes only plan old new all (some refl) real
+
+-- whether there is a change that is asked about says whether the lists decide alike through the
+-- plan
+pub compared_through : (rules : Rules) (only : Option Way) (old new plan : List ℕ)
+    (c : RenamedChanges) (outcome : Outcome) → rules ≡ Own → AreRenamed old new plan c
+    → (outcome ≡ Clear → has_way only c.renamed.items ≡ false)
+    → (outcome ≡ Remark → has_way only c.renamed.items ≡ true)
+    → IsComparedThrough rules only old new plan outcome
+compared_through rules only old new plan c outcome own are none some = record {
+  own = own;
+  old_rows = c.old.items;
+  new_rows = c.new.items;
+  plan_rules = c.plan;
+  old_read = are.old_rows;
+  new_read = are.new_rows;
+  plan_read = are.rules;
+  told = told only c.plan c.old.items c.new.items c.renamed.items outcome are.every are.real none
+      some;
+}
