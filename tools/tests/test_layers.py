@@ -10,7 +10,8 @@ from worked import HERE
 PACKAGE = HERE / "mqroute_tools"
 # each folder, with those that it may import from
 BELOW = {"common": set(), "script": {"common"}, "log": {"common", "script"},
-         "losses": {"common", "script"}, "why": {"common", "script", "log"},
+         "plan": {"common", "script"},
+         "losses": {"common", "script", "plan"}, "why": {"common", "script", "log"},
          "preview": {"common", "script", "log", "losses"},
          "live": {"common", "script"}, "search": {"common", "script", "live"}}
 
