@@ -1,6 +1,6 @@
 """Tables on a terminal."""
 import json
-from collections.abc import Iterable
+from collections.abc import Container, Iterable
 
 
 def table(head: list[str], rows: Iterable[list[str]]) -> str:
@@ -11,6 +11,15 @@ def table(head: list[str], rows: Iterable[list[str]]) -> str:
     return "\n".join(
         "  ".join(c.rjust(w) if r else c.ljust(w) for c, w, r in zip(line, widths, right)).rstrip()
         for line in lines)
+
+
+def columns(rows: Iterable[list[str]], right: Container[int] = ()) -> list[str]:
+    """Lines without a head; the columns numbered in `right` are numbers, which may be absent."""
+    lines = list(rows)
+    count = max(map(len, lines), default=0)
+    widths = [max(len(line[i]) for line in lines if i < len(line)) for i in range(count)]
+    return ["  ".join(c.rjust(w) if i in right else c.ljust(w)
+                      for i, (c, w) in enumerate(zip(line, widths))).rstrip() for line in lines]
 
 
 def shown(text: str) -> str:

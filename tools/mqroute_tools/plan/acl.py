@@ -1,0 +1,24 @@
+"""plan acl: writes an access list under a plan, and says whether it allows the same."""
+import argparse
+import sys
+
+from ..common.files import at
+from ..common.messages import tell
+from .list_translation import notes_on, translated
+from .report import write
+from .topic_plan import read_plan, read_text
+from .translator import Translator
+
+INEXACT = "the list isn't exact: mqroute-acl compare --plan shows all differences"
+
+
+def run(options: argparse.Namespace) -> int:
+    plan, text = read_plan(options.plan), read_text(options.list)
+    made = translated(Translator(plan), text, options.list, options.both)
+    found = notes_on(plan, made, text, options.list)
+    write(made.text)
+    for note in found:
+        print(f"{at(options.list, note.line)}: {note.words}", file=sys.stderr)
+    if any(note.is_difference for note in found):
+        tell(INEXACT)
+    return int(bool(found))

@@ -1,0 +1,117 @@
+"""An access list under a plan, and what is to be said of its lines."""
+from collections import defaultdict
+from collections.abc import Iterator
+from dataclasses import dataclass, field
+from typing import NamedTuple
+
+from .asking import GAINED, Difference, differences
+from .filters import Levels, is_wild
+from .list_lines import Line, lines_of_list
+from .plan_lines import MARKS
+from .topic_plan import Plan
+from .translator import Translator
+
+CLIENT, USER = MARKS
+
+
+class Note(NamedTuple):
+    line: int
+    words: str
+    is_difference: bool = False  # by mqroute-acl
+
+
+@dataclass
+class NewList:
+    """The list's new lines; of each the number of the old one, and how many have other filters."""
+    lines: list[str] = field(default_factory=list)
+    olds: list[int] = field(default_factory=list)
+    notes: list[Note] = field(default_factory=list)
+    rows: int = 0
+    changed: int = 0
+
+    @property
+    def text(self) -> str:
+        return "\n".join(self.lines)
+
+    def add(self, number: int, lines: list[str]) -> None:
+        self.lines += lines
+        self.olds += [number] * len(lines)
+
+
+def translated(translator: Translator, text: str, name: str, both: bool = False) -> NewList:
+    """The list with each line translated in its place; with `both` behind the old line."""
+    rows = {row.number: row for row in lines_of_list(text, name)}
+    made = NewList(rows=len(rows))
+    for number, line in enumerate(text.split("\n"), 1):
+        row = rows.get(number)
+        if row is None:
+            made.add(number, [line])
+            continue
+        new = translator.translation(row.wanted).new
+        made.changed += new != (row.wanted,)
+        made.add(number, new_lines(row, line, new, both))
+        if not new:
+            stays = "it stays as it is" if both else "left out"
+            made.notes.append(Note(number, f"{row.text}: none of its topics has a new name: "
+                                           f"{stays}"))
+        made.notes += notes_on_marks(translator.plan, row)
+    return made
+
+
+def new_lines(row: Line, line: str, new: tuple[Levels, ...], both: bool) -> list[str]:
+    made = [line if wanted == row.wanted else row.with_filter(wanted) for wanted in new]
+    if both:
+        return list(dict.fromkeys([line, *made]))
+    return made or [f"# no new name: {row.text}{row.end}"]
+
+
+def notes_on_marks(plan: Plan, row: Line) -> Iterator[Note]:
+    """Where a mark meets a level of a left side the line is for one client id or user name alone,
+    and no line of a list says that."""
+    if not row.is_pattern or not set(MARKS) & set(row.wanted):
+        return
+    opened = tuple("+" if level in MARKS else level for level in row.wanted)
+    for rule in plan.rules:
+        met = rule.within(opened)
+        if rule.right is None or rule.within(row.wanted) is not None or met is None:
+            continue
+        bound = [f"{'client id' if level == CLIENT else 'user name'} {met[place]}"
+                 for place, level in enumerate(row.wanted)
+                 if level in MARKS and met[place:place + 1] and not is_wild(met[place])]
+        yield Note(row.number, f"{row.text}: by line {rule.line} of the plan it is for the "
+                               f"{' and the '.join(bound)} alone: left out of this rule")
+
+
+# -- what mqroute-acl says of it
+
+def notes_on(plan: Plan, made: NewList, text: str, name: str) -> list[Note]:
+    """All that is to be said, line by line."""
+    return sorted([*made.notes, *judged(plan, made, text, name)], key=lambda note: note.line)
+
+
+def judged(plan: Plan, made: NewList, text: str, name: str) -> list[Note]:
+    """A note for each line by which somebody may more or less than by the old list."""
+    found = differences(plan, text, made.text, (name, f"the new {name}"))
+    texts = {row.number: row.text for row in lines_of_list(text, name)}
+    groups: defaultdict[tuple[int, str, str], list[Difference]] = defaultdict(list)
+    for one in found:
+        line = one.old or 0 if one.change != GAINED else made.olds[(one.new or 1) - 1]
+        groups[line, one.change, one.access].append(one)
+    return [Note(line, f"{texts.get(line, '')}: {difference_words(group)}", True)
+            for (line, _, _), group in sorted(groups.items(), key=lambda item: item[0])]
+
+
+def difference_words(group: list[Difference]) -> str:
+    one, count = group[0], len(group) - 1
+    verb = "may now" if one.change == GAINED else "may no longer"
+    topic = one.topic if one.topic == one.new_topic else f"{one.topic} -> {one.new_topic}"
+    more = f", and {count} more" if count else ""
+    return f"{who(one)} {verb} {one.access} {topic}{more}"
+
+
+def who(one: Difference) -> str:
+    if one.user is None:
+        whom = "a client without a user name"
+    else:
+        whom = "another user" if one.user in one.placeholders else f"user {one.user}"
+    return whom if one.client in one.placeholders else f"{whom}, client id {one.client},"

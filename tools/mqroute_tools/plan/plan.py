@@ -1,0 +1,92 @@
+"""plan: asks about a change of topics, by a plan of rules that give topics new names.
+
+Whether a translation is exact is for `mqroute-acl compare --plan` to say.
+Exit status: 0 nothing is to be looked at; 1 something is; 2 usage, or a plan, a list, a script or
+another file.
+"""
+import argparse
+
+from ..common.exit_status import UsageFault
+from ..common.files import keep_apart, refuse_stdin_twice
+from . import acl, check, compare, name, script
+
+RUN = {"check": check.run, "name": name.run, "acl": acl.run, "script": script.run,
+       "compare": compare.run}
+PLAN = "the plan: lines FROM -> TO, keep FROM and none FROM"
+DESCRIPTION = """Asks about a change of topics. A plan has a rule on each line, and the first whose
+left side matches a topic decides. FROM -> TO: topics that the filter FROM matches get new names;
+its + may have names, as in +hall, and TO has these again. keep FROM: they keep their names. none
+FROM: there are no such topics, or no longer. A topic about which no rule is keeps its name."""
+
+
+def add_arguments(parser: argparse.ArgumentParser) -> None:
+    parser.description = DESCRIPTION
+    found = parser.add_subparsers(required=True, dest="command", metavar="COMMAND")
+    add_check(found.add_parser("check", help="shows what is odd in a plan, and what becomes of a "
+                               "script's topics and subscriptions and of a list's lines"))
+    add_name(found.add_parser("name", help="shows what becomes of topics, filters and shared "
+                              "subscriptions"))
+    add_acl(found.add_parser("acl", help="writes an access list under the plan"))
+    add_script(found.add_parser("script", help="writes a script under the plan"))
+    add_compare(found.add_parser("compare", help="shows which clients of a script under new names "
+                                 "don't subscribe to what they did in one under old names"))
+
+
+def add_name(parser: argparse.ArgumentParser) -> None:
+    parser.add_argument("plan", help=PLAN)
+    parser.add_argument("text", nargs="+", help="a topic, a filter or $share/NAME/FILTER")
+
+
+def add_acl(parser: argparse.ArgumentParser) -> None:
+    parser.add_argument("plan", help=PLAN)
+    parser.add_argument("list")
+    parser.add_argument("--both", action="store_true",
+                        help="keep the old lines too, while both names are in use")
+
+
+def add_compare(parser: argparse.ArgumentParser) -> None:
+    parser.add_argument("plan", help=PLAN)
+    parser.add_argument("old_script", metavar="old-script")
+    parser.add_argument("new_script", metavar="new-script")
+
+
+def add_check(parser: argparse.ArgumentParser) -> None:
+    parser.add_argument("plan", help=PLAN)
+    parser.add_argument("--script", help="a script under old names")
+    parser.add_argument("--acl-file", metavar="LIST", help="an access list under old names")
+    parser.add_argument("--json", action="store_true", help="a JSON object on each line")
+
+
+def add_script(parser: argparse.ArgumentParser) -> None:
+    parser.add_argument("plan", help=PLAN)
+    parser.add_argument("script")
+    parser.add_argument("--old", metavar="FILE", help="write the old script too, with a blank line "
+                        "for each line that the new one has more")
+    parser.add_argument("--moved", metavar="FILE", help="only these clients use the new names; "
+                        "FILE has a client id on each line, in which * stands for any text")
+    parser.add_argument("--bridge", metavar="ID[:USER]", help="with --moved: the client id and the "
+                        "user name of the bridge that carries messages over (plan-bridge, none)")
+    parser.add_argument("--no-bridge", action="store_true",
+                        help="with --moved: nothing carries messages over")
+    parser.add_argument("--acl-file", metavar="LIST", help="with --moved: the list under which the "
+                        "bridge is sent messages")
+
+
+def look_at_files(options: argparse.Namespace) -> None:
+    """Refuses options that don't go together, and a file that is read and written."""
+    named = vars(options)
+    if options.command == "script":
+        if options.moved is None and (options.bridge is not None or options.no_bridge
+                                      or options.acl_file is not None):
+            raise UsageFault("--bridge, --no-bridge and --acl-file want --moved")
+        if options.no_bridge and (options.bridge is not None or options.acl_file is not None):
+            raise UsageFault("--bridge and --acl-file go without --no-bridge")
+    read = [named.get(name) for name in
+            ("plan", "list", "script", "acl_file", "moved", "old_script", "new_script")]
+    refuse_stdin_twice(read)
+    keep_apart(read, {"--old": named.get("old")})
+
+
+def run(options: argparse.Namespace) -> int:
+    look_at_files(options)
+    return RUN[options.command](options)

@@ -1,0 +1,48 @@
+"""plan script: writes a script under a plan: for all clients at once, or for some beside a
+bridge."""
+import argparse
+import sys
+
+from ..common.files import whole
+from ..common.messages import counted, own_name, tell
+from .bridge import Bridge, moved_clients
+from .check import report_script
+from .report import Report
+from .script_translation import NewScript, everyone, read_lines, rewritten
+from .topic_plan import Plan, read_plan, read_text
+from .translator import Translator
+
+BRIDGE = "plan-bridge"
+
+
+def run(options: argparse.Namespace) -> int:
+    plan = read_plan(options.plan)
+    translator, lines = Translator(plan), read_lines(options.script)
+    is_moved = everyone if options.moved is None else moved_clients(options.moved)
+    bridge = bridge_of(options, plan)
+    made = rewritten(translator, lines, is_moved)
+    several = sum(len(new) != 1 for new in made.lines)
+    if bridge is not None:
+        bridge.carry(made)
+    report = Report()
+    report_script(report, translator, options.script, made)
+    write(made, options.old)
+    look = (f"; {own_name()} check {options.plan} --script {options.script} shows what to look at"
+            if report.odd else "")
+    tell(f"{counted(len(lines), 'lines')}, {several} of them not one line any more{look}")
+    return int(report.odd)
+
+
+def bridge_of(options: argparse.Namespace, plan: Plan) -> Bridge | None:
+    if options.moved is None or options.no_bridge:
+        return None
+    client, _, user = (options.bridge or BRIDGE).partition(":")
+    acl = None if options.acl_file is None else read_text(options.acl_file)
+    return Bridge(plan, client, user or None, acl)
+
+
+def write(made: NewScript, old: str | None) -> None:
+    if old is not None:
+        with whole(old) as file:
+            file.write(made.old_text())
+    sys.stdout.buffer.write(made.new_text())
