@@ -133,6 +133,10 @@ def compare(losses: Losses, script: str, before: str, after: str) -> None:
             seen.refuse(commands)
             raise
     seen.refuse()
+    refuse_rest(runs, script)
+
+
+def refuse_rest(runs: list[Run], script: str) -> None:
     for run in runs:
         if run.head:
             raise Fault(f"{run.name} has answers to lines that {script} doesn't have")
@@ -152,12 +156,15 @@ def compare_line(losses: Losses, text: bytes, runs: list[Run], number: int) -> s
     before, after = here = [run.take(number) for run in runs]
     if is_blank(text):
         names = [run.name for run, block in zip(runs, here) if block]
-        other = "has an answer to it: it is the output of another script"
-        return f"blank, and {names[0]} {other}" if names else ""
+        return blank_answered(names[0]) if names else ""
     if before is None or after is None:
         return unanswered([run.name for run, block in zip(runs, here) if block is None])
     why = losses.add(text, before, after)
     return f"an output is of another script: {why}" if why else ""
+
+
+def blank_answered(name: str) -> str:
+    return f"blank, and {name} has an answer to it: it is the output of another script"
 
 
 def unanswered(names: list[str]) -> str:

@@ -139,6 +139,10 @@ class Totals:
     changed: int
     refused_before: int
     refused_after: int
+    turns: int | None = None  # copies that another member of a group has; None: not left out
+
+    def json(self) -> Json:
+        return {name: value for name, value in vars(self).items() if value is not None}
 
 
 @dataclass
@@ -153,6 +157,6 @@ class Findings:
         copies = [row.json() for row in self.copies]
         refused = [row.json() for row in self.refused]
         if self.by is None:
-            return {"copies": copies, "refused": refused, "totals": vars(self.totals)}
+            return {"copies": copies, "refused": refused, "totals": self.totals.json()}
         return {"by": self.by, "copies": copies, "causes": [vars(one) for one in self.causes],
-                "refused": refused, "totals": vars(self.totals)}
+                "refused": refused, "totals": self.totals.json()}

@@ -16,7 +16,7 @@ def why(newly: Counter[str], no_longer: Counter[str]) -> str:
 
 
 def report(found: Findings) -> str:
-    if not (found.copies or found.refused):
+    if not (found.copies or found.refused or found.totals.turns is not None):
         return ""
     parts = []
     if found.copies:
@@ -30,8 +30,9 @@ def report(found: Findings) -> str:
 
 def sums(totals: Totals) -> str:
     copies, lines = counted(totals.before, "copies"), counted(totals.refused_before, "lines")
+    turns = f", {totals.turns} another member's turn" if totals.turns else ""
     return (f"In all {copies} before and {totals.after} after: {totals.lost} lost, "
-            f"{totals.gained} gained, {totals.changed} changed. "
+            f"{totals.gained} gained, {totals.changed} changed{turns}. "
             f"{lines} refused before, {totals.refused_after} after.")
 
 

@@ -10,10 +10,13 @@ import sys
 from ..common.exit_status import UsageFault
 from ..common.files import STDIN, keep_apart, refuse_stdin_twice
 from ..common.option_values import whole_number
+from ..plan.topic_plan import read_plan
 from ..script.access_list import AccessList
 from . import html_page
 from .acl_verdicts import Lists
+from .by_plan import ByPlan
 from .comparison import Losses, compare, findings
+from .findings import Findings
 from .report_rows import Reasons
 from .text_report import report
 
@@ -33,6 +36,10 @@ def add_arguments(parser: argparse.ArgumentParser) -> None:
                         "mqroute-acl why), with the causes")
     parser.add_argument("--acl-after", metavar="FILE", help="the list of the second run")
     parser.add_argument("--json", action="store_true", help="JSON, also where nothing changes")
+    parser.add_argument("--plan", metavar="PLAN",
+                        help="with --new: topics are renamed by this plan, and AFTER is of NEW")
+    parser.add_argument("--new", metavar="NEW", help="the script under new names; SCRIPT and NEW "
+                        "are those of mqroute-plan script --old")
     parser.add_argument(
         "--html", metavar="FILE", help="write a page with causes and script lines, too")
 
@@ -41,15 +48,28 @@ def check(options: argparse.Namespace) -> None:
     """Refuses arguments that don't go together, and a file that is read and written."""
     if (options.acl_before is None) != (options.acl_after is None):
         raise UsageFault("--acl-before and --acl-after go together")
-    read = [options.script, options.before, options.after, options.acl_before, options.acl_after]
+    check_plan(options)
+    read = [options.script, options.before, options.after, options.acl_before, options.acl_after,
+            options.plan, options.new]
     refuse_stdin_twice(read)
     if options.script == STDIN and options.html is not None:
         raise UsageFault("--html reads the script twice: give it as a file")
     keep_apart(read, {"--html": options.html})
 
 
+def check_plan(options: argparse.Namespace) -> None:
+    if (options.plan is None) != (options.new is None):
+        raise UsageFault("--plan and --new go together")
+    for name, value in (("--by", options.by), ("--why", options.why), ("--html", options.html),
+                        ("--acl-before", options.acl_before)):
+        if options.plan is not None and value:
+            raise UsageFault(f"{name} goes without --plan")
+
+
 def run(options: argparse.Namespace) -> int:
     check(options)
+    if options.plan is not None:
+        return tell(options, through_plan(options))
     by_user = options.by == "user" or (options.html is not None and options.by is None)
     losses = Losses(options.depth)
     lists = None
@@ -63,6 +83,21 @@ def run(options: argparse.Namespace) -> int:
         lists.refuse()
     if options.html is not None:
         html_page.write(options.html, found, options.script, options.before, options.after)
+    return tell(options, found)
+
+
+def through_plan(options: argparse.Namespace) -> Findings:
+    """Under old and new names."""
+    losses = Losses(options.depth)
+    compared = ByPlan(losses, read_plan(options.plan), (options.script, options.new),
+                      (options.before, options.after))
+    compared.compare()
+    found = findings(losses)
+    found.totals.turns = compared.turns
+    return found
+
+
+def tell(options: argparse.Namespace, found: Findings) -> int:
     if options.json:
         text = json.dumps(found.json(), ensure_ascii=False, indent=1) + "\n"
     else:

@@ -151,7 +151,7 @@ class Preview:
                 + [cause for row in self.refused for cause in row.causes])
 
     def totals(self) -> dict[str, int]:
-        return vars(self.copies) | {
+        return self.copies.json() | {
             "users_losing": len(self.losing()), "users_gaining": len(self.gaining()),
             "granted": len(self.granted), "taken": len(self.taken),
             "subscriptions": len(self.subscriptions)}
