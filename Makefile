@@ -16,7 +16,7 @@ PYTHON ?= python3
 
 # The tools beside real brokers, each installed as mqroute-NAME, tools.py with all of them as subcommands; they import what
 # stands in tools/mqroute_tools.
-TOOLS = log_to_script who_loses why preview replay compare_log check search tools
+TOOLS = log_to_script who_loses why preview plan replay compare_log check search tools
 TOOL_NAMES = $(subst _,-,$(TOOLS:%=mqroute-%))
 TOOL_MODULES = $(patsubst tools/%,%,$(wildcard tools/mqroute_tools/*.py tools/mqroute_tools/*/*.py))
 # The brokers beside mosquitto on which scripts differ.

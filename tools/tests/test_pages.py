@@ -14,8 +14,10 @@ from worked import HERE, TOP
 
 # which make install wants
 BUILT = [TOP / f"crates/{name}/out/{name}" for name in ("mqroute", "mqroute_acl")]
-TOOLS = ("log_to_script", "who_loses", "why", "preview", "replay", "compare_log", "check", "search",
-         "tools")
+TOOLS = ("log_to_script", "who_loses", "why", "preview", "plan", "replay", "compare_log", "check",
+         "search", "tools")
+# Tools with commands, each of which has a --help of its own.
+COMMANDS = {"plan": ("check", "name", "acl", "script", "compare")}
 SECTIONS = ["NAME", "SYNOPSIS", "DESCRIPTION", "OPTIONS", "EXIT STATUS", "EXAMPLES", "SEE ALSO"]
 PROGRAMS = ("mqroute", "mqroute-acl")
 OVERVIEW = "mqroute.7"
@@ -38,16 +40,18 @@ def options(text: str) -> set[str]:
 
 
 def options_of(tool: str) -> set[str]:
-    """Those that its --help explains."""
-    return set(re.findall(r"^  (?:-h, )?(--[a-z-]+)", help_of(tool), re.M))
+    """Those that its --help explains, and those of its commands."""
+    texts = [help_of(tool), *(help_of(tool, name) for name in COMMANDS.get(tool, ()))]
+    return set(re.findall(r"^  (?:-h, )?(--[a-z-]+)", "".join(texts), re.M))
 
 
-def help_of(tool: str) -> str:
+def help_of(tool: str, *words: str) -> str:
     """Without python3-paho-mqtt, which no --help wants."""
     with tempfile.TemporaryDirectory() as folder:
         Path(folder, "paho.py").write_text("raise ImportError")
-        done = subprocess.run([sys.executable, HERE / f"{tool}.py", "--help"], capture_output=True,
-                              text=True, env=os.environ | {"PYTHONPATH": folder})
+        done = subprocess.run([sys.executable, HERE / f"{tool}.py", *words, "--help"],
+                              capture_output=True, text=True,
+                              env=os.environ | {"PYTHONPATH": folder})
     assert done.returncode == 0, done.stderr
     return done.stdout
 
