@@ -14,7 +14,7 @@ class Report:
         self.objects: list[Json] = []
         self.odd = False
 
-    def remark(self, where: str, number: int, words: str, **more: str) -> None:
+    def remark(self, where: str, number: int, words: str, **more: Any) -> None:
         self.lines.append(f"{at(where, number)}: {words}")
         said = {"kind": "remark", "file": where, "line": number, "words": words}
         self.objects.append(said | more)

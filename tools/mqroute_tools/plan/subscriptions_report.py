@@ -108,7 +108,7 @@ class Subscriptions:
             of = shown(clients[0]) + more
             report.remark(script, line, f"{shown(one)} and {shown(other)} of {of} share "
                           f"{shown(new)}: who unsubscribes from the one, or subscribes again, "
-                          "changes the other")
+                          "changes the other", clients=clients, filter=new)
         groups: defaultdict[str, list[Subscription]] = defaultdict(list)
         for one_group in self.all:
             for new in one_group.new if one_group.share else ():
@@ -117,7 +117,7 @@ class Subscriptions:
             if len(found) > 1:
                 names = " and ".join(shown(group.text) for group in found)
                 report.remark(script, found[1].use.first,
-                              f"the groups {names} become one, {shown(new)}")
+                              f"the groups {names} become one, {shown(new)}", filter=new)
 
     def shared_filters(self) -> dict[tuple[str, str, str], tuple[int, list[str]]]:
         """Pairs of texts that become one filter of a client, which has one subscription for it:
