@@ -47,6 +47,22 @@ class ByPlan:
         if counts[0] != counts[1]:
             raise Fault(f"{scripts[0]} has {counts[0]} lines and {scripts[1]} has {counts[1]}: "
                         "mqroute-plan script --old writes both with as many")
+        self.at_once = all(map(self.is_renamed, self.publishes()))
+
+    def publishes(self) -> Iterator[tuple[str, str]]:
+        """The topics of the new script's publishes, each behind that of the old line that it stands
+        for."""
+        old: object = None
+        for lines in zip(*self.lines):
+            before, after = (command_of(line) or {} for line in lines)
+            if not is_blank(lines[0]):
+                old = before.get("topic")
+            new = after.get("topic")
+            if isinstance(old, str) and isinstance(new, str):
+                yield old, new
+
+    def is_renamed(self, topics: tuple[str, str]) -> bool:
+        return topics[1] == self.renamed(topics[0])
 
     def new_name(self, topic: str) -> str:
         """The name under which old and new name are one."""
@@ -91,15 +107,17 @@ class ByPlan:
         why = misfit(command, block, by_key(block.copies, run.name))
         if why:
             raise Fault(f"{place}: an output is of another script: {why}")
-        self.add(side, command or {}, block)
+        self.add(side, command or {}, block, which == 1 and self.at_once)
 
-    def add(self, side: Side, command: Command, block: Block) -> None:
+    def add(self, side: Side, command: Command, block: Block, is_renamed: bool) -> None:
+        """Where old and new names are in use side by side, old ones are renamed; where new ones
+        alone are, one may be the old name of another topic."""
         if block.refused and command.get("client") in self.clients:
             side.refused = side.refused or block.refused
         for text in block.copies:
             copy = read_json(text)
             if copy["client"] in self.clients:
-                topic = self.renamed(copy["topic"])
+                topic = copy["topic"] if is_renamed else self.renamed(copy["topic"])
                 side.copies[copy["client"], topic].append(text_of_copy(copy, topic))
 
     def leave_out_turns(self, was: Copies, now: Copies) -> None:
