@@ -3,10 +3,10 @@ from collections import defaultdict
 from collections.abc import Iterator
 from typing import NamedTuple
 
-from ..common.exit_status import Fault
 from ..common.tables import shown
 from ..script.output import command_of
 from .asking import Question, Verdict, Witness, verdicts
+from .filter_words import NOT_ASKED
 from .filters import SHARE, Levels, split_share
 from .topic_plan import Plan
 
@@ -58,9 +58,6 @@ def rows(plan: Plan, old: list[bytes], new: list[bytes]) -> Iterator[Row]:
     told: set[Key] = set()
     for (key, qos), question in asked.items():
         verdict = said[question]
-        if not verdict.asked:
-            raise Fault(f"a filter of {shown(key[0])} can't be compared: no access list that is "
-                        "compared through a plan can have it")
         if key not in told and not verdict.is_exact:
             told.add(key)
             yield from rows_of(key, qos, verdict)
@@ -70,6 +67,8 @@ def rows_of(key: Key, qos: int, verdict: Verdict) -> Iterator[Row]:
     client, share = key
     group = f"  group {shown(share.removeprefix(SHARE)[:-1])}" if share else ""
     whom = shown(client) + group + (f"  QoS {qos}" if qos else "")
+    if not verdict.asked:
+        yield Row(whom, NOT_ASKED, "", "")
     for witness, words in ((verdict.fewer, NO_LONGER), (verdict.more, NOW)):
         if witness is not None:
             yield Row(whom, words, shown(witness.new_topic), was(witness))
