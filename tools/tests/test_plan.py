@@ -6,6 +6,7 @@ tests that run them are skipped.
 import json
 import os
 import random
+import re
 import subprocess
 import sys
 import tempfile
@@ -252,7 +253,7 @@ class Reading(Case):
         self.refused("current.acl", "script", "plan", "current.acl")
         self.write("current.acl", "tpic a")
         self.refused(": current.acl:1: unknown keyword", "acl", "plan", "current.acl")
-        self.refused("--bridge, --no-bridge and --acl-file want --moved", "script", "plan",
+        self.refused("--bridge, --no-bridge and --acl-file need --moved", "script", "plan",
                      "script.jsonl", "--no-bridge")
         self.refused("standard input can be read once", "compare", "-", "-", "script.jsonl")
         self.refused("--old script.jsonl: it would overwrite script.jsonl", "script", "plan",
@@ -298,6 +299,15 @@ plant/+/door/+  site/+/doors/+  more: site/x/doors/main, which was plant/x/door
 "a "            "a "            no rule is about it
 """)
         self.assertIn("not compared", self.shown(1, "name", "plan", "plant/+/%c"))
+
+    def test_the_page(self):
+        """The example of the manual page."""
+        page = (TOP / "docs/mqroute-plan.1").read_text("utf-8").replace("\\-", "-")
+        shown = page.split(".SH EXAMPLE\n.RS\n.nf\n")[1].split("\n.fi")[0] + "\n"
+        first, second = re.findall(r"^\$ (.*)\n((?:(?!\$ ).*\n)*)", shown, re.M)
+        self.assertEqual(first[0], "cat plan")
+        self.write("plan", first[1])
+        self.assertEqual(self.shown(0, *second[0].split()[1:]), second[1])
 
     def test_check(self):
         words = ["check", "plan", "--script", "script.jsonl", "--acl-file", "current.acl"]
@@ -430,8 +440,9 @@ class Run(Case):
     def test_bridge(self):
         self.write("moved", "# these\nmeter-*\n")
         self.write("all.acl", "pattern readwrite #")
-        self.written("new.jsonl", "script", "--moved", "moved", "--old", "old.jsonl", "plan",
-                     "script.jsonl")
+        said = self.written("new.jsonl", "script", "--moved", "moved", "--old", "old.jsonl",
+                            "plan", "script.jsonl")
+        self.assertIn(": 14 lines, 0 of them not one line any more, 10 of the bridge; ", said)
         lines = (self.folder / "new.jsonl").read_text().splitlines()
         self.assertEqual(lines[0], '{"do":"connect","client":"plan-bridge"}')
         self.assertIn('{"do":"publish","client":"plan-bridge","topic":"plant/hall-1/energy",'

@@ -67,22 +67,25 @@ class Bridge:
                 *({"do": "subscribe", "client": self.client, "filter": wanted, "qos": 2,
                    "no_local": True, "rap": True} for wanted in filters)]
 
-    def carry(self, made: NewScript) -> None:
+    def carry(self, made: NewScript) -> int:
         """Puts its lines into the script: before the first line, and behind each that it is sent
-        something at."""
+        something at. How many there are."""
         self.refuse_taken(made.old)
         try:
             begin = [text_of_command(command) for command in self.beginning()]
             self.fed(begin)
+            count = len(begin)
             for place, lines in enumerate(made.lines):
                 carried = [text_of_command(command) for command in self.carried(self.fed(lines))]
                 self.fed(carried)
                 made.lines[place] = lines + carried
+                count += len(carried)
         except OracleFault as fault:
             raise Fault(str(fault)) from fault
         finally:
             self.oracle.close()
         made.lines[:1] = [begin + lines for lines in made.lines[:1]]
+        return count
 
     def refuse_taken(self, lines: list[bytes]) -> None:
         if any((command_of(line) or {}).get("client") == self.client for line in lines):

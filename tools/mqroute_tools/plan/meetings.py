@@ -2,7 +2,7 @@
 import itertools
 from collections.abc import Callable, Iterator
 
-from .filters import HASH, Levels, is_name
+from .filters import HASH, Levels, is_name, meet
 from .rules import Capture, Rule, Side
 from .topic_plan import Plan
 
@@ -16,10 +16,21 @@ def collisions(plan: Plan) -> Iterator[tuple[Rule, Rule, tuple[Levels, Levels], 
     """Pairs of rules, the same one perhaps, each with two names and the new name of both."""
     moves = [rule for rule in plan.rules if rule.right is not None]
     for one, other in itertools.combinations_with_replacement(moves, 2):
+        if not may_meet(one, other):
+            continue
         found = (made for names in meetings(plan, one, other)
                  if (made := collision(plan, (one, other), names)) is not None)
         for names, new in itertools.islice(found, 1):
             yield one, other, names, new
+
+
+def may_meet(one: Rule, other: Rule) -> bool:
+    """Two new names of one rule are the same only where it drops something."""
+    if one is other:
+        kept = set(one.right or ())
+        return any(item not in kept for item in one.left
+                   if isinstance(item, Capture) or item == HASH)
+    return meet(one.to_filter, other.to_filter) is not None
 
 
 def collision(plan: Plan, rules: tuple[Rule, Rule],

@@ -78,7 +78,7 @@ def look_at_files(options: argparse.Namespace) -> None:
     if options.command == "script":
         if options.moved is None and (options.bridge is not None or options.no_bridge
                                       or options.acl_file is not None):
-            raise UsageFault("--bridge, --no-bridge and --acl-file want --moved")
+            raise UsageFault("--bridge, --no-bridge and --acl-file need --moved")
         if options.no_bridge and (options.bridge is not None or options.acl_file is not None):
             raise UsageFault("--bridge and --acl-file go without --no-bridge")
     read = [named.get(name) for name in

@@ -22,14 +22,13 @@ def run(options: argparse.Namespace) -> int:
     bridge = bridge_of(options, plan)
     made = rewritten(translator, lines, is_moved)
     several = sum(len(new) != 1 for new in made.lines)
-    if bridge is not None:
-        bridge.carry(made)
+    carried = "" if bridge is None else f", {bridge.carry(made)} of the bridge"
     report = Report()
     report_script(report, translator, options.script, made)
     write(made, options.old)
     look = (f"; {own_name()} check {options.plan} --script {options.script} shows what to look at"
             if report.odd else "")
-    tell(f"{counted(len(lines), 'lines')}, {several} of them not one line any more{look}")
+    tell(f"{counted(len(lines), 'lines')}, {several} of them not one line any more{carried}{look}")
     return int(report.odd)
 
 

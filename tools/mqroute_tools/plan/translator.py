@@ -98,29 +98,33 @@ class Translator:
 
     def merged(self, olds: Filters, news: list[Levels]) -> list[Levels]:
         """Two filters at a time become one, as long as that matches nothing more: the least
-        first."""
+        first. Where they match more already they stay."""
+        if len(news) < 2 or not self.is_exact(olds, news):
+            return news
+        wider: set[Levels] = set()  # those that match more
         while True:
             pairs = [(joined, one, other) for one, other in itertools.combinations(news, 2)
-                     if (joined := joined_or_none(one, other)) is not None]
+                     if (joined := joined_or_none(one, other)) not in wider and joined is not None]
             pairs.sort(key=lambda pair: sum(map(is_wild, pair[0])) - len(pair[0]))
             for joined, one, other in pairs:
-                fewer = replaced(news, one, joined, other)
-                if self.is_exact(olds, fewer):
-                    news = fewer
+                if joined not in wider and self.is_exact(olds, [joined]):
+                    news = replaced(news, one, joined, other)
                     break
+                wider.add(joined)
             else:
                 return news
 
     def opened(self, olds: Filters, news: list[Levels]) -> list[Levels]:
         """With `#` in the place of wildcards at an end, where that matches nothing more: what ended
         with `#` does so again."""
+        if not self.is_exact(olds, news):
+            return news
         for place, wanted in enumerate(news):
             front = wanted
             while front and is_wild(front[-1]):
                 front = front[:-1]
-            opened = [*news[:place], (*front, HASH), *news[place + 1:]]
-            if front != wanted and self.is_exact(olds, opened):
-                news = opened
+            if front != wanted and self.is_exact(olds, [(*front, HASH)]):
+                news = [*news[:place], (*front, HASH), *news[place + 1:]]
         return list(dict.fromkeys(news))
 
 
