@@ -4,6 +4,7 @@ import sys
 
 from ..common.files import at
 from ..common.messages import tell
+from ..common.tables import shown
 from .list_translation import notes_on, translated
 from .report import write
 from .topic_plan import read_plan, read_text
@@ -18,7 +19,7 @@ def run(options: argparse.Namespace) -> int:
     found = notes_on(plan, made, text, options.list)
     write(made.text)
     for note in found:
-        print(f"{at(options.list, note.line)}: {note.words}", file=sys.stderr)
+        print(f"{at(options.list, note.line)}: {shown(note.words)}", file=sys.stderr)
     if any(note.is_difference for note in found):
         tell(INEXACT)
     return int(bool(found))

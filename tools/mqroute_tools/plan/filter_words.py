@@ -1,4 +1,5 @@
 """What is to be looked at of a filter's translation, in words."""
+from ..common.tables import shown
 from .asking import Verdict, Witness, verdicts
 from .filters import Levels, matches, text_of
 from .topic_plan import Plan
@@ -54,8 +55,8 @@ def verdict_words(made: Translation, verdict: Verdict, shared: bool,
 
 def pair_words(witness: Witness) -> str:
     if witness.topic == witness.new_topic:
-        return witness.topic
-    return f"{witness.new_topic}, which was {witness.topic}"
+        return shown(witness.topic)
+    return f"{shown(witness.new_topic)}, which was {shown(witness.topic)}"
 
 
 def more_words(made: Translation, found: Witness, names: Names | None) -> str:

@@ -42,7 +42,7 @@ def topic_row(plan: Plan, text: str) -> Rows:
     rule, new = plan.rule_for(levels(text)), plan.new_name(levels(text))
     by = "no rule is about it" if new is not None else "the plan takes this name for its own"
     if rule is not None:
-        by = f"{at(plan.name, rule.line)}  {rule.text}"
+        by = f"{at(plan.name, rule.line)}  {shown(rule.text)}"
     return [[shown(text), NO_NAME if new is None else shown(text_of(new)), by]]
 
 

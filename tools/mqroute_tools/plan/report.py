@@ -4,6 +4,7 @@ import sys
 from typing import Any
 
 from ..common.files import at
+from ..common.tables import shown
 
 Json = dict[str, Any]
 
@@ -15,7 +16,7 @@ class Report:
         self.odd = False
 
     def remark(self, where: str, number: int, words: str, **more: Any) -> None:
-        self.lines.append(f"{at(where, number)}: {words}")
+        self.lines.append(f"{at(where, number)}: {shown(words)}")
         said = {"kind": "remark", "file": where, "line": number, "words": words}
         self.objects.append(said | more)
         self.odd = True
