@@ -361,7 +361,8 @@ topic readwrite #
         self.write("script.jsonl", json.dumps(command) + '\n{"do":"acl","text":"tpic"}\nno\n\n')
         self.assertIn("script.jsonl:1: line 1 of the list: pattern read cmd/%c/#: by line 1",
                       self.shown(1, "check", "plan", "--script", "script.jsonl"))
-        self.written("new.jsonl", "script", "plan", "script.jsonl")
+        self.assertIn("shows what to look at",
+                      self.written("new.jsonl", "script", "plan", "script.jsonl"))
         new = (self.folder / "new.jsonl").read_text().splitlines()
         self.assertEqual(json.loads(new[0])["text"].splitlines()[0],
                          "pattern read site/devices/%c/cmd/#")

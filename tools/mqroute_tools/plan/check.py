@@ -20,7 +20,6 @@ def run(options: argparse.Namespace) -> int:
     if options.script is not None:
         made = rewritten(translator, read_lines(options.script))
         report_script(report, translator, options.script, made)
-        report_lists(report, translator, options.script, made)
     if options.acl_file is not None:
         report_list(report, translator, options.acl_file)
     write(report.text(options.json))
@@ -28,12 +27,9 @@ def run(options: argparse.Namespace) -> int:
 
 
 def report_script(report: Report, translator: Translator, script: str, made: NewScript) -> None:
+    """Its topics, its subscriptions, and the lists that it sets."""
     report_topics(report, translator.plan, script, made.topics)
     Subscriptions(translator, made).report(report, script)
-
-
-def report_lists(report: Report, translator: Translator, script: str, made: NewScript) -> None:
-    """Of the lists that the script sets."""
     for text, number in made.lists.items():
         name = f"the list of line {number}"
         for note in notes_on(translator.plan, translated(translator, text, name), text, name):
