@@ -76,6 +76,7 @@ def questions() -> list[tuple[str, str, list[str], list[str] | None]]:
         ("compare", "`#` and 60 denies that meet, reversed", *hard(lists.denies_below(60))),
         ("compare", "160 lines of one name at four levels, reversed",
          *hard(lists.one_named(160, 4))),
+        ("compare --plan", "100 rules, 1,100 lines, 100 users", *lists.replanned(100)),
         ("lint", "10,000 lines, 1,000 users", plant, None),
         ("lint", "a service user of 800 lines, 1,027 in all", service, None),
         ("lint", "11,006 lines, 1,000 users", many, None),
@@ -98,6 +99,10 @@ def questions() -> list[tuple[str, str, list[str], list[str] | None]]:
 def words_of(program: str, question: str, old: pathlib.Path, second: pathlib.Path,
              asked: list[str] | None) -> list[str]:
     """The words of a question about the list in the first file."""
+    if question == "compare --plan":
+        plan = old.parent / "plan"
+        plan.write_text("\n".join(lists.plan()) + "\n")
+        return [program, "compare", "--rules", "own", "--plan", str(plan), str(old), str(second)]
     if question == "who" and asked is not None:
         return [program, "who", str(old), asked[0]]
     if question == "test":

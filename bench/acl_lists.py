@@ -92,3 +92,39 @@ def one_named(count: int, levels: int, name: str = "w") -> List:
     """Each line names one level of its filter, the others are `+`."""
     return ["topic readwrite " + "/".join(f"{name}{line}" if level == line % levels else "+"
                                           for level in range(levels)) for line in range(count)]
+
+
+def plan() -> List:
+    """100 rules of a plan: halls go below a site, lines get a level more, and two keep a client's
+    own level."""
+    rules = [f"plant/hall-{hall}/+machine/{kind} -> site/a/h{hall}/+machine/meters/{kind}"
+             for hall in range(10) for kind in KINDS]
+    rules += [f"line{line}/+a/+b/# -> site/b/l{line}/+a/x/+b/#" for line in range(18)]
+    return [*rules, "cmd/+client/# -> site/cmd/+client/#", "status/+client -> site/status/+client"]
+
+
+def replanned_line(chosen: random.Random) -> tuple[str, str]:
+    """What one filter becomes by the plan."""
+    hall, line = chosen.randrange(10), chosen.randrange(18)
+    kind, machine = chosen.choice(KINDS), chosen.randrange(9)
+    return chosen.choice([
+        (f"plant/hall-{hall}/+/{kind}", f"site/a/h{hall}/+/meters/{kind}"),
+        (f"plant/hall-{hall}/m{machine}/{kind}", f"site/a/h{hall}/m{machine}/meters/{kind}"),
+        (f"line{line}/#", f"site/b/l{line}/#"),
+        (f"cmd/dev{machine}/#", f"site/cmd/dev{machine}/#")])
+
+
+def replanned(users: int) -> Pair:
+    """Ten lines for each user, by old names and by those of the plan."""
+    chosen = random.Random(1)
+    old = ["pattern read cmd/%c/#", "pattern write status/%c"]
+    new = ["pattern read site/cmd/%c/#", "pattern write site/status/%c"]
+    for user in range(users):
+        old.append(f"user u{user}")
+        new.append(f"user u{user}")
+        for _ in range(10):
+            access = chosen.choice(["read", "write", "readwrite", "deny"])
+            before, after = replanned_line(chosen)
+            old.append(f"topic {access} {before}")
+            new.append(f"topic {access} {after}")
+    return old, new
