@@ -10,6 +10,8 @@ failed=0
 
 # KiB of address space: some twice of what the mixed lines take.
 room=7200
+# For mqroute-acl: so many beside its own file, which is in the address space too.
+data=6100
 
 say() { # WHETHER_RIGHT TEXT
     if [ "$1" = 0 ]; then
@@ -26,6 +28,7 @@ for built in "$program" "$acl"; do
         exit 1
     fi
 done
+acl_room=$((data + $(stat -c %s "$acl") / 1024))
 work=$(mktemp -d)
 trap 'rm -rf "$work"' EXIT
 
@@ -106,10 +109,10 @@ subscribes=300000
 echo "topic read t/#" > "$work/list"
 { echo '{"do":"connect","client":"c"}'; seq -f '{"do":"subscribe","client":"c","filter":"t/%.0f/#"}' "$subscribes"; } \
     > "$work/script"
-told=$( (ulimit -v "$room" && exec "$acl" reach "$work/list" --script "$work/script") 2>&1)
+told=$( (ulimit -v "$acl_room" && exec "$acl" reach "$work/list" --script "$work/script") 2>&1)
 status=$?
 [ "$status" = 0 ] && [ "$told" = "0 of $subscribes subscriptions can receive nothing" ]
-say $? "reach on $subscribes subscribes in $room KiB: wanted status 0 and no such subscription, got status $status: $told"
+say $? "reach on $subscribes subscribes in $acl_room KiB: wanted status 0 and no such subscription, got status $status: $told"
 
 # Lists of a hundred users with fifty lines each, one with a line more.
 for user in $(seq 100); do
@@ -121,11 +124,11 @@ head -n 1000 "$work/list" > "$work/shorter"
 
 asks() { # STATUS LAST_LINE ARGUMENTS..: of mqroute-acl on these lists
     local last
-    last=$( (ulimit -v "$room" && cd "$work" && exec "$acl" "${@:3}") 2>&1)
+    last=$( (ulimit -v "$acl_room" && cd "$work" && exec "$acl" "${@:3}") 2>&1)
     local status=$?
     last=$(tail -n 1 <<< "$last")
     [ "$status" = "$1" ] && [ "$last" = "$2" ]
-    say $? "mqroute-acl ${*:3} in $room KiB: wanted status $1 and the last line '$2', got status $status: $last"
+    say $? "mqroute-acl ${*:3} in $acl_room KiB: wanted status $1 and the last line '$2', got status $status: $last"
 }
 
 asks 1 "1 difference" compare list longer
