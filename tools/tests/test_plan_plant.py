@@ -178,7 +178,9 @@ class Plant(Folder):
             [ACL_PROGRAM, "compare", "--rules=own", "--json", "--plan", "plan", "current.acl",
              "by-hand.acl"], cwd=self.folder, capture_output=True, encoding="utf-8")
         found = [json.loads(line) for line in done.stdout.splitlines()]
-        self.assertEqual(len(found), 22)
+        rows = {(one["change"], one["access"], one["topic"], json.dumps([one["old"], one["new"]]))
+                for one in found}
+        self.assertEqual((len(rows), len(found)), (22, 39))  # one row is of 18 kinds of clients
         self.assertEqual({(one["user"], one["access"]) for one in found if one["change"] == "lost"},
                          {("erp", "write"), ("plc", "read"), ("mailer", "read")})
 
