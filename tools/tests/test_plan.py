@@ -6,7 +6,6 @@ tests that run them are skipped.
 import json
 import os
 import random
-import re
 import subprocess
 import sys
 import tempfile
@@ -301,15 +300,6 @@ plant/+/door/+  site/+/doors/+  more: site/x/doors/main, which was plant/x/door
 "a "            "a "            no rule is about it
 """)
         self.assertIn("not compared", self.shown(1, "name", "plan", "plant/+/%c"))
-
-    def test_the_page(self):
-        """The example of the manual page."""
-        page = (TOP / "docs/mqroute-plan.1").read_text("utf-8").replace("\\-", "-")
-        shown = page.split(".SH EXAMPLE\n.RS\n.nf\n")[1].split("\n.fi")[0] + "\n"
-        first, second = re.findall(r"^\$ (.*)\n((?:(?!\$ ).*\n)*)", shown, re.M)
-        self.assertEqual(first[0], "cat plan")
-        self.write("plan", first[1])
-        self.assertEqual(self.shown(0, *second[0].split()[1:]), second[1])
 
     def test_check(self):
         words = ["check", "plan", "--script", "script.jsonl", "--acl-file", "current.acl"]
