@@ -136,6 +136,14 @@ class Why(unittest.TestCase):
             denied, "    subscribed by line 6 x/no: QoS 0",
             denied, "    subscribed by line 5 $share/g/x/no: QoS 0"])
 
+    def test_refused_subscribes(self):
+        script = [connect("c"), connect("p"), subscribe("c", "x", no_locl=True),
+                  subscribe("c", "x#"), publish("p")]
+        done = self.why(script, "script", "5", "c")
+        self.assertEqual(done.stdout.splitlines()[3:], [
+            "    its subscribe at line 3 was refused (BadField)",
+            "    its subscribe at line 4 was refused (TopicFilter)"])
+
     def test_by_whose_rules(self):
         """By mosquitto's a topic line decides before a pattern line."""
         (self.folder / "list").write_text("topic readwrite x\npattern deny x\n")

@@ -14,6 +14,7 @@ from .lines import Question
 from .reckoning import Publish, Reckoning
 from .runs import Runs
 
+SHOWN = 3  # refused subscribes
 NOTHING_SENT = 16  # the reason where no copy is sent, and none begins to wait
 
 
@@ -29,6 +30,8 @@ def answered(asked: Question, given: AccessList | None,
     access = access_at(history, given, options.rules)
     reckoning = Reckoning(publish, history, access, runs, asked.client)
     found = reckoning.answers()
+    if asked.client is not None:
+        add_refused(asked, blocks, found[0].causes[0])
     if not publish.block.refused:
         if asked.client is None:
             look_at_reason(publish, reckoning)
@@ -36,6 +39,14 @@ def answered(asked: Question, given: AccessList | None,
         for answer in found:
             add_later(answer, after)
     return found
+
+
+def add_refused(asked: Question, blocks: dict[int, Block], first: Cause) -> None:
+    """The last subscribes that were refused, of a client that isn't subscribed."""
+    if first.kind in (causes.NO_SUBSCRIPTION, causes.NO_SESSION) and asked.client is not None:
+        refused = list(asked.script.refused(blocks, asked.client, asked.line))[-SHOWN:]
+        first.details += [f"its subscribe at line {block.line} was refused ({block.refused})"
+                          for block in refused]
 
 
 def block_of(asked: Question, blocks: dict[int, Block]) -> Block:

@@ -44,6 +44,14 @@ class Script:
             if command is not None and block is not None and not block.refused:
                 yield number, command, block
 
+    def refused(self, blocks: dict[int, Block], client: str, last: int) -> Iterator[Block]:
+        """The answers to the subscribes of a client up to this line that mqroute refused."""
+        for number in range(1, last + 1):
+            command, block = self.commands[number - 1], blocks.get(number)
+            if command and command.get("do") == "subscribe" and command.get("client") == client \
+                    and block is not None and block.refused:
+                yield block
+
 
 @dataclass
 class Question:
