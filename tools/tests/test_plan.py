@@ -266,7 +266,7 @@ class PlanAlone(Case):
         self.assertEqual(self.shown(1, "check", "plan"), """\
 plan:1: lab/x1/result and lab/x2/result both become lab/results
 plan:3: plant/x1/door (line 2) and plant/x1/door/main both become site/x1/doors/main
-plan:4: plant/door becomes plant/old/door, which line 2 takes for an old topic; so with line 3
+plan:4: plant/door becomes plant/old/door, which line 2 takes for an old topic; the same with line 3
 plan:5: never used: line 4 takes each topic that it matches
 """)
         found = [json.loads(line) for line in self.shown(1, "check", "--json", "plan").splitlines()]
@@ -395,8 +395,8 @@ class Run(Case):
     def test_both_scripts(self):
         self.written("new.acl", "acl", "plan", "current.acl")
         said = self.written("new.jsonl", "script", "--old", "old.jsonl", "plan", "script.jsonl")
-        self.assertEqual(said, "plan: 14 lines, 1 of them not one line any more; plan check plan "
-                               "--script script.jsonl shows what to look at\n")
+        self.assertEqual(said, "plan: 14 lines, 1 of them became several lines or none; plan "
+                               "check plan --script script.jsonl shows what to look at\n")
         self.assertEqual((self.folder / "new.jsonl").read_text().splitlines()[5:8], [
             '{"do":"subscribe","client":"dashboard","filter":"site/a/#","qos":1}',
             '{"do":"subscribe","client":"dashboard","filter":"plant/notice","qos":1}',
@@ -435,7 +435,8 @@ class Run(Case):
         self.write("all.acl", "pattern readwrite #")
         said = self.written("new.jsonl", "script", "--moved", "moved", "--old", "old.jsonl",
                             "plan", "script.jsonl")
-        self.assertIn(": 14 lines, 0 of them not one line any more, 10 of the bridge; ", said)
+        self.assertIn(": 14 lines, 0 of them became several lines or none, 10 of the bridge; ",
+                      said)
         lines = (self.folder / "new.jsonl").read_text().splitlines()
         self.assertEqual(lines[0], '{"do":"connect","client":"plan-bridge"}')
         self.assertIn('{"do":"publish","client":"plan-bridge","topic":"plant/hall-1/energy",'

@@ -20,21 +20,21 @@ from mqroute_tools.script.topics import matches
 PLANT, RECORDED = TOP / "examples/topic-plan", TOP / "brokers/recorded"
 DRAFT_1 = """\
 draft-1:8: plant/x1/door (line 7) and plant/x1/door/main both become acme/a/x1/doors/main/state
-draft-1:16: line 8 matches plant/x/door/order too, and decides; so with line 10
+draft-1:16: line 8 matches plant/x/door/order too, and decides; the same with line 10
 draft-1:18: plant/hall-1/line1/oven/temp (line 13) and hall-1/oven/temp both become \
 acme/a/hall-1/lines/line1/oven/process/temp
 draft-1:19: plant/hall-1/line1/oven/state (line 12) and hall-1/oven/state both become \
-acme/a/hall-1/lines/line1/oven/state; so with lines 13, 14, 15, 18
+acme/a/hall-1/lines/line1/oven/state; the same with lines 13, 14, 15, 18
 draft-1:22: agv/x1/pos (line 21) and agv/x1/position both become acme/a/logistics/agv/x1/position
 draft-1:24: lab/x1/result and lab/x2/result both become acme/a/lab/results
 draft-1:27: plant/cmd/energy (line 3) and cmd/meters/energy both become acme/a/cmd/meters/energy; \
-so with lines 4, 5, 7, 8, 10, 12, 13, 14, 15, 16
+the same with lines 4, 5, 7, 8, 10, 12, 13, 14, 15, 16
 draft-1:29: never used: line 7 takes each topic that it matches
 """
 DRAFT_2 = """\
 draft-2:12: plant/x1/door (line 11) and plant/x1/door/front both become \
 acme/a/x1/doors/front/state
-draft-2:20: line 12 matches plant/x/door/order too, and decides; so with line 14
+draft-2:20: line 12 matches plant/x/door/order too, and decides; the same with line 14
 draft-2:29: plant/lab/alarm/result (line 14) and lab/alarms/result both become \
 acme/a/lab/alarms/result
 """
@@ -187,7 +187,7 @@ class Plant(Folder):
     def test_check(self):
         found = self.done("check", "plan", "--script", "day.jsonl").stdout
         self.assertEqual(found.split("\n\n")[0], "plan:14: line 12 matches plant/x/door/order too, "
-                                                 "and decides; so with line 13")
+                                                 "and decides; the same with line 13")
         self.assertIn("\nno topic of it: lines 3, 4, 5, 6, 32\n\nSubscriptions of day.jsonl: 88, "
                       "of which 3 stay, 83 become one other that matches exactly what they did\n",
                       found)
@@ -195,7 +195,7 @@ class Plant(Folder):
 
     def test_at_once(self):
         said = self.written("new.jsonl", "script", "--old", "old.jsonl", "plan", "day.jsonl")
-        self.assertIn(": 1134 lines, 2 of them not one line any more; ", said)
+        self.assertIn(": 1134 lines, 2 of them became several lines or none; ", said)
         self.assertEqual(self.losses("current.acl", "new.acl"), EXACT)
         self.assertEqual(self.losses("current.acl", "by-hand.acl", "--depth", "3"), BY_HAND)
         self.tomorrow()

@@ -81,7 +81,7 @@ def by_rule(found: Iterable[Pair]) -> Iterator[Remark]:
     for line, group in groups.items():
         lines = [str(pair.other.line) for pair in group if pair.other is not pair.rule]
         word = "line" if len(lines) == 2 else "lines"
-        more = f"; so with {word} {', '.join(lines[1:])}" if len(lines) > 1 else ""
+        more = f"; the same with {word} {', '.join(lines[1:])}" if len(lines) > 1 else ""
         yield Remark(line, group[0].words + more)
 
 

@@ -28,7 +28,8 @@ def run(options: argparse.Namespace) -> int:
     write(made, options.old)
     look = (f"; {own_name()} check {options.plan} --script {options.script} shows what to look at"
             if report.odd else "")
-    tell(f"{counted(len(lines), 'lines')}, {several} of them not one line any more{carried}{look}")
+    became = f"{several} of them became several lines or none"
+    tell(f"{counted(len(lines), 'lines')}, {became}{carried}{look}")
     return int(report.odd)
 
 
