@@ -103,6 +103,7 @@ try_program "$program" /dev/null nowhere.jsonl
 lists=tests/acl
 try_program "$acl" /dev/null compare "$lists/own.acl" "$lists/owned.acl"
 try_program "$acl" /dev/null compare --json "$lists/own.acl" "$lists/one.acl"
+try_program "$acl" /dev/null compare --rules own --plan "$lists/moved.plan" "$lists/moved-old.acl" "$lists/moved-new.acl"
 try_program "$acl" /dev/null why "$lists/valid.acl" d1 hall/safe/set --user ann
 try_program "$acl" /dev/null lint "$lists/needless.acl"
 try_program "$acl" /dev/null reach "$lists/one.acl" d1 a/+ --user ann
