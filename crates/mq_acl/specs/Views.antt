@@ -67,7 +67,7 @@ abbrev pub lines_left : Option (Bor (List ℕ)) → List (List ℕ)
 lines_left None = []
 lines_left (Some rest) = lines.lines rest.now
 
--- the fault that is told of a line; lack of memory has no line
+-- the fault that is shown of a line; lack of memory has no line
 abbrev pub fault_of : ℕ → AclKind → AclFault
 fault_of n kinds.Memory = out_of_memory
 fault_of n kind = record { line = n; kind = kind }

@@ -15,7 +15,7 @@ use Rattle.mq_witness.specs.Clients.{can_be_id}
 use Rattle.mq_witness.specs.Ruled.{are_asked_of}
 use Rattle.mq_findings.specs.Classes.{can_be_user, user_of}
 use Rattle.mq_findings.specs.Classes.{is_in}
-use Rattle.mq_findings.specs.Differences.{is_change, is_compared, is_told_of, IsReal, same_way, TellsAll}
+use Rattle.mq_findings.specs.Differences.{is_change, is_compared, is_shown_of, IsReal, same_way, ShowsAll}
 use Rattle.mq_findings.specs.Differences.{same_direction, same_reason, same_start}
 use Rattle.mq_findings.specs.Reasons.{reason_of}
 use Rattle.mq_lint.specs.Needless.{AllowSame}
@@ -24,7 +24,7 @@ use Rattle.mq_findings.specs.declared.way.Way.{Way}
 use Rattle.mq_findings.specs.declared.way.Way.TheVariants.{Gained, Lost}
 use Rattle.mq_who.proofs.ExtentLemmas.{any_weaker}
 use Rattle.mq_acl_answers.specs.Answers.{AreChanges, Differ, IsCompared, NoneChanges, SomeChanges}
-use Rattle.mq_acl_answers.specs.Answers.{TellsWhetherSame, is_way}
+use Rattle.mq_acl_answers.specs.Answers.{SaysWhetherSame, is_way}
 use Rattle.mq_acl_answers.specs.declared.commands.compare.Changes.{Changes}
 use Rattle.mq_acl_answers.specs.declared.outcome.Outcome.{Outcome}
 use Rattle.mq_acl_answers.specs.declared.outcome.Outcome.TheVariants.{Clear, Remark}
@@ -48,7 +48,7 @@ differs rules Lost old new client user topic direction e same =
     not_same (allow_by rules new client user topic direction)
     (allow_by rules old client user topic direction) e (sym same)
 
--- where a difference is told the lists do differ
+-- where a difference is shown the lists do differ
 differ_of : (rules : Rules) (old new : List Row) (all : List Difference)
     → list_any (λ d. is_way None d.way) all ≡ true → All (IsReal rules old new) all
     → Differ rules (row_views old) (row_views new)
@@ -74,7 +74,7 @@ way_is Gained Lost e = absurd (true≢false (sym e))
 way_is Lost Gained e = absurd (true≢false (sym e))
 way_is Lost Lost e = refl
 
--- where one of this way is told something does change in it
+-- where one of this way is shown something does change in it
 changes_of : (rules : Rules) (way : Way) (old new : List Row) (all : List Difference)
     → list_any (λ d. is_way (Some way) d.way) all ≡ true → All (IsReal rules old new) all
     → SomeChanges rules way (row_views old) (row_views new)
@@ -105,10 +105,10 @@ changes_of rules way old new (d ∷ ds) some real =
         }
     at behind (inr rest) = behind rest
 
--- no difference is told where none is that is asked about, if all are
-none_told : (all : List Difference) → list_any (λ d. is_way None d.way) all ≡ false → all ≡ []
-none_told [] none = refl
-none_told (d ∷ ds) none = absurd (true≢false none)
+-- no difference is shown where none is that is asked about, if all are
+none_shown : (all : List Difference) → list_any (λ d. is_way None d.way) all ≡ false → all ≡ []
+none_shown [] none = refl
+none_shown (d ∷ ds) none = absurd (true≢false none)
 
 pub not_true : (b : Bool) → ¬ (b ≡ true) → b ≡ false
 not_true true never = absurd (never refl)
@@ -116,7 +116,7 @@ not_true false never = refl
 
 of_way : (rules : Rules) (old new : List Row) (way : Way) (direction : Direction)
     (client : List ℕ) (user : Option (List ℕ)) (name : List ℕ) (d : Difference)
-    → is_told_of rules old new way direction client user name d ≡ true
+    → is_shown_of rules old new way direction client user name d ≡ true
     → is_way (Some way) d.way ≡ true
 of_way rules old new way direction client user name d is =
     let in_class = is_in (row_views old) (row_views new) user d.class in
@@ -129,9 +129,9 @@ of_way rules old new way direction client user name d is =
     let most = and_parts (in_class && directed && is_of) starts all.0 in
     (and_parts (in_class && directed) is_of most.0).1
 
--- nothing changes in this way where no difference of it is told
+-- nothing changes in this way where no difference of it is shown
 none_changes : (rules : Rules) (way : Way) (old new : List Row) (all : List Difference)
-    → TellsAll rules old new all → list_any (λ d. is_way (Some way) d.way) all ≡ false
+    → ShowsAll rules old new all → list_any (λ d. is_way (Some way) d.way) all ≡ false
     → NoneChanges rules way (row_views old) (row_views new)
 none_changes rules way old new all every none client name user direction asked valid =
     let id = and_parts (can_be_id client)
@@ -140,25 +140,25 @@ none_changes rules way old new all every none client name user direction asked v
     (are_asked_of rules (row_views old ++ row_views new) client user) id.1 in
     not_true (is_change rules way (row_views old) (row_views new) client user name direction)
     (λ changes. true≢false (sym (any_weaker
-    (is_told_of rules old new way direction client user name) (λ d. is_way (Some way) d.way)
+    (is_shown_of rules old new way direction client user name) (λ d. is_way (Some way) d.way)
     (of_way rules old new way direction client user name) all
     (every way direction client name user id.0 rest.0 rest.1 valid changes)) ∙ none))
 
-told : (rules : Rules) (only : Option Way) (c : Changes) (old new : List ℕ) (outcome : Outcome)
+shown : (rules : Rules) (only : Option Way) (c : Changes) (old new : List ℕ) (outcome : Outcome)
     → AreChanges rules old new c
     → (outcome ≡ Clear → list_any (λ d. is_way only d.way) c.differences.items ≡ false)
     → (outcome ≡ Remark → list_any (λ d. is_way only d.way) c.differences.items ≡ true)
-    → TellsWhetherSame rules only (row_views c.old.items) (row_views c.new.items) outcome
-told rules None c old new Clear are none some =
-    are.same (none_told c.differences.items (none refl))
-told rules None c old new Remark are none some =
+    → SaysWhetherSame rules only (row_views c.old.items) (row_views c.new.items) outcome
+shown rules None c old new Clear are none some =
+    are.same (none_shown c.differences.items (none refl))
+shown rules None c old new Remark are none some =
     differ_of rules c.old.items c.new.items c.differences.items (some refl) are.real
-told rules (Some way) c old new Clear are none some =
+shown rules (Some way) c old new Clear are none some =
     none_changes rules way c.old.items c.new.items c.differences.items are.every (none refl)
-told rules (Some way) c old new Remark are none some =
+shown rules (Some way) c old new Remark are none some =
     changes_of rules way c.old.items c.new.items c.differences.items (some refl) are.real
 
--- whether there is a difference that is asked about tells whether the lists allow the same, or one of them nothing that
+-- whether there is a difference that is asked about shows whether the lists allow the same, or one of them nothing that
 -- the other doesn't
 pub compared : (rules : Rules) (only : Option Way) (old new : List ℕ) (c : Changes)
     (outcome : Outcome) → AreChanges rules old new c
@@ -170,10 +170,10 @@ compared rules only old new c outcome are none some = record {
   new_rows = row_views c.new.items;
   old_read = are.old_rows.read;
   new_read = are.new_rows.read;
-  outcome_of = told rules only c old new outcome are none some;
+  outcome_of = shown rules only c old new outcome are none some;
 }
 
--- lists of which no difference is told allow the same
+-- lists of which no difference is shown allow the same
 pub allow_same : (rules : Rules) (old new : List Row)
     → ((client topic : List ℕ) (user : Option (List ℕ)) (direction : Direction)
     → can_be_id client ≡ true → can_be_user user ≡ true

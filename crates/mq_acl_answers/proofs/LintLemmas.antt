@@ -13,10 +13,10 @@ use Rattle.mq_lint.specs.declared.remark.RemarkKind.TheVariants as kinds_of
 use Rattle.mq_acl_answers.specs.Lint.{AreRemarks, HasNeedless, IsLinted, IsNeedlessIn, IsRight}
 use Rattle.mq_acl_answers.specs.Lint.{has_fault, has_needless, matters}
 use Rattle.mq_acl_answers.specs.declared.outcome.Outcome.{Outcome}
-use Rattle.mq_acl_answers.specs.declared.outcome.Outcome.TheVariants.{Clear, Remark as Told}
+use Rattle.mq_acl_answers.specs.declared.outcome.Outcome.TheVariants.{Clear, Remark as Shown}
 use Rattle.mq_acl_answers.specs.declared.commands.lint.Remarks.{Remarks}
 
--- nothing is told of a row, or that it denies nothing
+-- nothing is shown of a row, or that it denies nothing
 abbrev IsQuiet : Option RemarkKind → Type 0
 IsQuiet None = ⊤
 IsQuiet (Some kind) = matters kind ≡ false
@@ -25,7 +25,7 @@ first_false : (a b : Bool) → (a || b) ≡ false → (a ≡ false) × (b ≡ fa
 first_false true b e = absurd (true≢false e)
 first_false false b e = (refl, e)
 
--- of no row more is told where no remark tells more
+-- of no row more is shown where no remark shows more
 all_quiet : (rows : List Row) (kinds : List (Option RemarkKind)) → length kinds ≡ length rows
     → has_needless (remarks_of_kinds rows kinds) ≡ false
     → (place : ℕ) (k : Option RemarkKind) → place < length rows
@@ -54,16 +54,16 @@ right_of rules rows place row (Some kinds_of.Tab) quiet is = absurd (true≢fals
 right_of rules rows place row (Some (kinds_of.Repeats line)) quiet is = absurd (true≢false quiet)
 right_of rules rows place row (Some (kinds_of.Needless by)) quiet is = absurd (true≢false quiet)
 
-all_right : (rules : Rules) (rows : List Row) (told : List Remark) → has_needless told ≡ false
-    → AreNeedless rules rows told → (place : ℕ) (d : Row) → place < length rows
+all_right : (rules : Rules) (rows : List Row) (shown : List Remark) → has_needless shown ≡ false
+    → AreNeedless rules rows shown → (place : ℕ) (d : Row) → place < length rows
     → IsRight rules rows place (slice_index_or rows place d)
-all_right rules rows told none are place d low =
+all_right rules rows shown none are place d low =
     right_of rules rows place (slice_index_or rows place d) (slice_index_or are.kinds place None)
     (all_quiet rows are.kinds are.all (ap has_needless (sym are.remarks) ∙ none) place None low)
     (are.each place d None low)
 
--- more is told of the row at a place
-record TellsMore (rows : List Row) (kinds : List (Option RemarkKind)) : Type 0 where
+-- more is shown of the row at a place
+record ShowsMore (rows : List Row) (kinds : List (Option RemarkKind)) : Type 0 where
   place : ℕ
   row : Row
   kind : RemarkKind
@@ -73,7 +73,7 @@ record TellsMore (rows : List Row) (kinds : List (Option RemarkKind)) : Type 0 w
   counts : matters kind ≡ true
 
 behind : (r : Row) (rows : List Row) (k : Option RemarkKind) (kinds : List (Option RemarkKind))
-    → TellsMore rows kinds → TellsMore (r ∷ rows) (k ∷ kinds)
+    → ShowsMore rows kinds → ShowsMore (r ∷ rows) (k ∷ kinds)
 behind r rows k kinds t = record {
   place = suc t.place;
   row = t.row;
@@ -84,17 +84,17 @@ behind r rows k kinds t = record {
   counts = t.counts;
 }
 
-tells_more : (rows : List Row) (kinds : List (Option RemarkKind))
-    → has_needless (remarks_of_kinds rows kinds) ≡ true → TellsMore rows kinds
-tells_more [] kinds some = absurd (true≢false (sym some))
-tells_more (r ∷ rs) [] some = absurd (true≢false (sym some))
-tells_more (r ∷ rs) (None ∷ ks) some = behind r rs None ks (tells_more rs ks some)
-tells_more (r ∷ rs) (Some kind ∷ ks) some =
-    go (matters kind) refl (λ rest. tells_more rs ks rest)
+shows_more : (rows : List Row) (kinds : List (Option RemarkKind))
+    → has_needless (remarks_of_kinds rows kinds) ≡ true → ShowsMore rows kinds
+shows_more [] kinds some = absurd (true≢false (sym some))
+shows_more (r ∷ rs) [] some = absurd (true≢false (sym some))
+shows_more (r ∷ rs) (None ∷ ks) some = behind r rs None ks (shows_more rs ks some)
+shows_more (r ∷ rs) (Some kind ∷ ks) some =
+    go (matters kind) refl (λ rest. shows_more rs ks rest)
   where
     go : (b : Bool) → matters kind ≡ b
-        → (has_needless (remarks_of_kinds rs ks) ≡ true → TellsMore rs ks)
-        → TellsMore (r ∷ rs) (Some kind ∷ ks)
+        → (has_needless (remarks_of_kinds rs ks) ≡ true → ShowsMore rs ks)
+        → ShowsMore (r ∷ rs) (Some kind ∷ ks)
     go true counts more = record {
       place = 0;
       row = r;
@@ -106,10 +106,11 @@ tells_more (r ∷ rs) (Some kind ∷ ks) some =
     }
     go false quiet more = behind r rs (Some kind) ks (more (rw quiet at some))
 
-needless_of : (rules : Rules) (text : List ℕ) (told : List Remark) → has_needless told ≡ true
-    → IsNeedlessIn rules text told → HasNeedless rules text
-needless_of rules text told some is =
-    let more = tells_more is.rows is.told_of.kinds (ap has_needless (sym is.told_of.remarks) ∙ some)
+needless_of : (rules : Rules) (text : List ℕ) (shown : List Remark) → has_needless shown ≡ true
+    → IsNeedlessIn rules text shown → HasNeedless rules text
+needless_of rules text shown some is =
+    let more = shows_more is.rows is.shown_of.kinds (ap has_needless
+    (sym is.shown_of.remarks) ∙ some)
     in
     record {
       rows = is.rows;
@@ -119,10 +120,10 @@ needless_of rules text told some is =
       kind = more.kind;
       in_range = more.low;
       is = more.row_is more.row;
-      told = subst (IsKind rules is.rows more.place more.row) (more.kind_is None)
+      shown = subst (IsKind rules is.rows more.place more.row) (more.kind_is None)
           (subst (λ row. IsKind rules is.rows more.place row
-          (slice_index_or is.told_of.kinds more.place None)) (sym (more.row_is more.row))
-          (is.told_of.each more.place more.row None more.low));
+          (slice_index_or is.shown_of.kinds more.place None)) (sym (more.row_is more.row))
+          (is.shown_of.each more.place more.row None more.low));
       counts = more.counts;
     }
 
@@ -137,11 +138,11 @@ odd_or_needless rules text r are (inr some) = go (has_fault r.odd.items) refl
         absurd (true≢false (sym some ∙ ap has_needless (are.none faulty)))
     go false clean = inr (needless_of rules text r.needless.items some (are.all clean))
 
--- the remarks on a text tell how it is linted
+-- the remarks on a text show how it is linted
 pub linted : (rules : Rules) (text : List ℕ) (r : Remarks) (outcome : Outcome)
     → AreRemarks rules text r
     → (outcome ≡ Clear → (r.odd.items ≡ []) × (has_needless r.needless.items ≡ false))
-    → (outcome ≡ Told → (r.odd.items ≢ []) ⊎ (has_needless r.needless.items ≡ true))
+    → (outcome ≡ Shown → (r.odd.items ≢ []) ⊎ (has_needless r.needless.items ≡ true))
     → IsLinted rules text outcome
 linted rules text r Clear are none some =
     let nothing = none refl in
@@ -150,6 +151,6 @@ linted rules text r Clear are none some =
       even = sym are.odd ∙ nothing.0;
       rows = is.rows;
       are_rows = is.are_rows;
-      right = all_right rules is.rows r.needless.items nothing.1 is.told_of;
+      right = all_right rules is.rows r.needless.items nothing.1 is.shown_of;
     }
-linted rules text r Told are none some = odd_or_needless rules text r are (some refl)
+linted rules text r Shown are none some = odd_or_needless rules text r are (some refl)

@@ -12,7 +12,7 @@ use Rattle.mq_acl_answers.specs.Answers.{AreRows, IsReach, IsReached}
 use Rattle.mq_acl_answers.specs.declared.outcome.Outcome.{Outcome}
 use Rattle.mq_acl_answers.specs.declared.outcome.Outcome.TheVariants.{Clear, Remark}
 
--- whether a topic is found tells whether there is one
+-- whether a topic is found shows whether there is one
 pub reached : (rules : Rules) (text client : List ℕ) (user : Option (List ℕ))
     (subscription : List ℕ)
     (found : Option (List ℕ)) (outcome : Outcome)

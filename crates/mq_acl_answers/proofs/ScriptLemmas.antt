@@ -1,4 +1,4 @@
--- What the subscriptions in vain that are found say of a script.
+-- What the unreached subscriptions that are found say of a script.
 use Rattle.std.proofs.Common.{◌≡◌, ◌≢◌, ◌<◌, ℕ, suc, List, [], ◌∷◌, Option}
 use Rattle.std.proofs.Common.{ap, arith, inl, inr, length, refl, subst, sym, ◌⊎◌}
 use Rattle.std.specs.Borrow.{Bor}
@@ -15,7 +15,7 @@ use Rattle.mq_reach.specs.declared.search.Findings.{Findings}
 use Rattle.mq_reach.specs.declared.subscription.Subscription.{Subscription}
 use Rattle.mq_acl_answers.specs.Answers.{AreRows}
 use Rattle.mq_acl_answers.specs.Failures.{GivesNoCommand, IsScriptFailure}
-use Rattle.mq_acl_answers.specs.Script.{AreTold, FindsVain, HasCommand, TellsWhetherNone}
+use Rattle.mq_acl_answers.specs.Script.{AreShown, FindsUnreached, HasCommand, SaysWhetherNone}
 use Rattle.mq_acl_answers.specs.declared.failure.Failure.{Failure}
 use Rattle.mq_acl_answers.specs.declared.failure.Failure.TheVariants as failure
 use Rattle.mq_acl_answers.specs.declared.outcome.Outcome.{Outcome}
@@ -41,7 +41,7 @@ none_counted (x ∷ all) count is zero =
 pub finds : (rules : Rules) (text script : List ℕ) (rows : List Row) (f : Findings)
     → AreRows rules text rows
     → IsFound (list_by rules (row_views rows)) (all_lines script) f → 0 < f.counts.commands
-    → FindsVain rules text script f
+    → FindsUnreached rules text script f
 finds rules text script rows f are found some = record {
   rows = rows;
   are_rows = are;
@@ -60,38 +60,38 @@ none_given before after script f takes end are zero = (
   are.lines,
 )
 
--- and what is told of one without
+-- and what is shown of one without
 pub no_command : (rules : Rules) (text : List ℕ) (name : Bor (List ℕ))
-    (before after : Option (List ℕ)) (script : List ℕ) (f : Findings) (told : Failure) → Consumes before after script → IsAtEnd after
+    (before after : Option (List ℕ)) (script : List ℕ) (f : Findings) (shown : Failure) → Consumes before after script → IsAtEnd after
     → AreCounted (all_lines script) f.counts → f.counts.commands ≡ 0
-    → (told ≡ failure.NoCommand name f.counts.lines) ⊎ (told ≡ failure.Log name f.counts.lines)
-    → IsScriptFailure rules text name.now before after told
-no_command rules text name before after script f told takes end are zero (inl e) =
+    → (shown ≡ failure.NoCommand name f.counts.lines) ⊎ (shown ≡ failure.Log name f.counts.lines)
+    → IsScriptFailure rules text name.now before after shown
+no_command rules text name before after script f shown takes end are zero (inl e) =
     subst (IsScriptFailure rules text name.now before after) (sym e)
     (refl, none_given before after script f takes end are zero)
-no_command rules text name before after script f told takes end are zero (inr e) =
+no_command rules text name before after script f shown takes end are zero (inr e) =
     subst (IsScriptFailure rules text name.now before after) (sym e)
     (refl, none_given before after script f takes end are zero)
 
--- ## What is told
+-- ## What is shown
 
-told-is : (all : List Subscription) (outcome : Outcome) → (outcome ≡ Clear → all ≡ [])
+shown-is : (all : List Subscription) (outcome : Outcome) → (outcome ≡ Clear → all ≡ [])
     → (outcome ≡ Remark → all ≢ [])
-    → TellsWhetherNone (subscription_views all) outcome
-told-is [] Clear none some = refl
-told-is (s ∷ all) Clear none some = absurd (let bad : (s ∷ all) ≡ [] = none refl in cc)
-told-is [] Remark none some = absurd (some refl refl)
-told-is (s ∷ all) Remark none some = λ e. cc
+    → SaysWhetherNone (subscription_views all) outcome
+shown-is [] Clear none some = refl
+shown-is (s ∷ all) Clear none some = absurd (let bad : (s ∷ all) ≡ [] = none refl in cc)
+shown-is [] Remark none some = absurd (some refl refl)
+shown-is (s ∷ all) Remark none some = λ e. cc
 
--- whether some are found tells whether there are some
-pub told : (rules : Rules) (text script : List ℕ) (f : Findings) (outcome : Outcome) → FindsVain rules text script f
-    → (outcome ≡ Clear → f.vain.items ≡ []) → (outcome ≡ Remark → f.vain.items ≢ [])
-    → AreTold rules text script outcome
-told rules text script f outcome finds none some = record {
+-- whether some are found shows whether there are some
+pub shown : (rules : Rules) (text script : List ℕ) (f : Findings) (outcome : Outcome) → FindsUnreached rules text script f
+    → (outcome ≡ Clear → f.unreached.items ≡ []) → (outcome ≡ Remark → f.unreached.items ≢ [])
+    → AreShown rules text script outcome
+shown rules text script f outcome finds none some = record {
   rows = row_views finds.rows;
   read = finds.are_rows.read;
-  vain = subscription_views f.vain.items;
-  are_vain = finds.found.vain;
-  told = told-is f.vain.items outcome none some;
+  unreached = subscription_views f.unreached.items;
+  are_unreached = finds.found.unreached;
+  shown = shown-is f.unreached.items outcome none some;
   command = finds.command;
 }

@@ -20,8 +20,8 @@ use Rattle.mq_findings.specs.declared.difference.Difference.{Difference}
 use Rattle.mq_findings.proofs.FirstLemmas.{first_place}
 use Rattle.mq_who.specs.Who.{IsListing, is_listed_in, is_member}
 use Rattle.mq_who.proofs.ExtentLemmas.{any_weaker, direction_is}
-use Rattle.mq_acl_answers.specs.Who.{NoOtherMay, OthersMay, TellsWhetherOthers, has_word, is_kept}
-use Rattle.mq_acl_answers.specs.Who.{is_other, is_star, is_told, is_wanted, means, names}
+use Rattle.mq_acl_answers.specs.Who.{NoOtherMay, OthersMay, SaysWhetherOthers, has_word, is_kept}
+use Rattle.mq_acl_answers.specs.Who.{is_other, is_star, is_shown, is_wanted, means, names}
 use Rattle.mq_acl_answers.specs.Who.{words_in}
 use Rattle.mq_acl_answers.specs.declared.outcome.Outcome.TheVariants.{Clear, Remark}
 
@@ -61,13 +61,13 @@ other_is rows None user class m = refl
 other_is rows (Some only) user class m = ap not (any_means rows user class (words_in only) m)
 
 -- ---- what is listed
--- one that is listed for a client that isn't left out is told of
-told_listed : (rules : Rules) (rows : List Row) (access : Option Direction)
+-- one that is listed for a client that isn't left out is shown of
+shown_listed : (rules : Rules) (rows : List Row) (access : Option Direction)
     (only : Option (List ℕ)) (direction : Direction) (client : List ℕ) (user : Option (List ℕ))
     (topic : List ℕ) (d : Difference) → is_wanted access direction ≡ true
     → is_other (row_views rows) only user ≡ true
-    → is_listed_in rules rows direction client user topic d ≡ true → is_told access only d ≡ true
-told_listed rules rows access only direction client user topic d w o e =
+    → is_listed_in rules rows direction client user topic d ≡ true → is_shown access only d ≡ true
+shown_listed rules rows access only direction client user topic d w o e =
     let front = and_parts (is_member (row_views rows) user d.class
     && same_direction direction d.direction && same_start topic d.topic)
     (same_reason (reason_of rules rows client user topic direction) d.old_reason) e in
@@ -79,26 +79,26 @@ told_listed rules rows access only direction client user topic d w o e =
     let kept = sym (other_is (row_views rows) only user d.class parts.0) ∙ o in
     (λ i. wanted i && kept i)
 
--- where none is told of, no other may
+-- where none is shown of, no other may
 pub no_other : (rules : Rules) (rows : List Row) (wanted : List ℕ) (access : Option Direction)
     (only : Option (List ℕ)) (all : List Difference) → IsListing rules true rows wanted all
-    → list_any (is_told access only) all ≡ false
+    → list_any (is_shown access only) all ≡ false
     → NoOtherMay rules (row_views rows) wanted access only
 no_other rules rows wanted access only all l none direction client topic user w c u q v o a =
     false_from_ne_true (allow_by rules (row_views rows) client user topic direction)
     (λ e. let some = any_weaker (is_listed_in rules rows direction client user topic)
-    (is_told access only)
-    (λ d t. told_listed rules rows access only direction client user topic d w o t) all
+    (is_shown access only)
+    (λ d t. shown_listed rules rows access only direction client user topic d w o t) all
     (l.lists direction client topic user c u q v (rw (a, e) refl)) in
     let bad : false ≡ true = sym none ∙ some in cc)
 
 -- and where one is, it may
 pub others_may : (rules : Rules) (rows : List Row) (wanted : List ℕ) (access : Option Direction)
     (only : Option (List ℕ)) (all : List Difference) → IsListing rules true rows wanted all
-    → list_any (is_told access only) all ≡ true
+    → list_any (is_shown access only) all ≡ true
     → OthersMay rules (row_views rows) wanted access only
 others_may rules rows wanted access only all l some =
-    let at = first_place (is_told access only) all some in
+    let at = first_place (is_shown access only) all some in
     let d = get_or all at.place at.item in
     let real = l.real at.place at.item at.in_range in
     let parts = and_parts (is_wanted access d.direction) (is_kept only d.class) (at.here at.item) in
@@ -115,23 +115,23 @@ others_may rules rows wanted access only all l some =
       case = real.case;
     }
 
--- ---- what is told
-pub told_none : (rules : Rules) (rows : List Row) (wanted : List ℕ) (access : Option Direction)
+-- ---- what is shown
+pub shown_none : (rules : Rules) (rows : List Row) (wanted : List ℕ) (access : Option Direction)
     (given : Option (List ℕ)) (only : List ℕ) (all : List Difference) → given ≡ Some only
-    → IsListing rules true rows wanted all → list_any (is_told access given) all ≡ false
-    → TellsWhetherOthers rules (row_views rows) wanted access given Clear
-told_none rules rows wanted access given only all e l none =
-    subst (λ (o : Option (List ℕ)). TellsWhetherOthers rules (row_views rows) wanted access o Clear)
+    → IsListing rules true rows wanted all → list_any (is_shown access given) all ≡ false
+    → SaysWhetherOthers rules (row_views rows) wanted access given Clear
+shown_none rules rows wanted access given only all e l none =
+    subst (λ (o : Option (List ℕ)). SaysWhetherOthers rules (row_views rows) wanted access o Clear)
     (sym e)
     (no_other rules rows wanted access (Some only) all l
-    (ap (λ (o : Option (List ℕ)). list_any (is_told access o) all) (sym e) ∙ none))
+    (ap (λ (o : Option (List ℕ)). list_any (is_shown access o) all) (sym e) ∙ none))
 
-pub told_some : (rules : Rules) (rows : List Row) (wanted : List ℕ) (access : Option Direction)
+pub shown_some : (rules : Rules) (rows : List Row) (wanted : List ℕ) (access : Option Direction)
     (given : Option (List ℕ)) (only : List ℕ) (all : List Difference) → given ≡ Some only
-    → IsListing rules true rows wanted all → list_any (is_told access given) all ≡ true
-    → TellsWhetherOthers rules (row_views rows) wanted access given Remark
-told_some rules rows wanted access given only all e l some =
-    subst (λ (o : Option (List ℕ)). TellsWhetherOthers rules (row_views rows) wanted access o Remark)
+    → IsListing rules true rows wanted all → list_any (is_shown access given) all ≡ true
+    → SaysWhetherOthers rules (row_views rows) wanted access given Remark
+shown_some rules rows wanted access given only all e l some =
+    subst (λ (o : Option (List ℕ)). SaysWhetherOthers rules (row_views rows) wanted access o Remark)
     (sym e)
     (others_may rules rows wanted access (Some only) all l
-    (ap (λ (o : Option (List ℕ)). list_any (is_told access o) all) (sym e) ∙ some))
+    (ap (λ (o : Option (List ℕ)). list_any (is_shown access o) all) (sym e) ∙ some))

@@ -15,7 +15,7 @@ use Rattle.mq_acl.specs.declared.row.Row.{Row}
 use Rattle.mq_witness.specs.Clients.{can_be_id}
 use Rattle.mq_findings.specs.Classes.{can_be_user}
 use Rattle.mq_findings.specs.Reasons.{first_grant, is_grant, reason_of}
-use Rattle.mq_findings.specs.Differences.{TellsAll, IsReal, AreApart, AreMarked, is_change}
+use Rattle.mq_findings.specs.Differences.{ShowsAll, IsReal, AreApart, AreMarked, is_change}
 use Rattle.mq_findings.specs.Differences.{same_way}
 use Rattle.mq_findings.specs.declared.way.Way.{Way}
 use Rattle.mq_lint.specs.Needless.{AllowSame, is_asked}
@@ -29,7 +29,7 @@ pub record AreRows (rules : Rules) (text : List ℕ) (rows : List Row) : Type 0 
   pub read : rows_by rules text ≡ Ok (row_views rows)
   pub numbered : line_views rows ≡ row_lines_by rules text
 
--- it tells whether the client may read and write the topic, and the lines that decide it
+-- it shows whether the client may read and write the topic, and the lines that decide it
 pub record Explains (rules : Rules) (text client : List ℕ) (user : Option (List ℕ))
     (topic : List ℕ) (e : Explanation) : Type 0 where
   pub rows : List Row
@@ -45,13 +45,13 @@ pub record Explains (rules : Rules) (text client : List ℕ) (user : Option (Lis
   pub may_write : is_grant e.writing.reason
       ≡ allow_by rules (row_views rows) client user topic Writing
 
--- where it is asked whether the client may, it is told
-abbrev pub TellsWhether : Rules → (may : Option Direction) → List AclRow → (client : List ℕ)
+-- where it is asked whether the client may, it is shown
+abbrev pub SaysWhether : Rules → (may : Option Direction) → List AclRow → (client : List ℕ)
     → Option (List ℕ) → (topic : List ℕ) → Outcome → Type 0
-TellsWhether rules None rows client user topic outcome = outcome ≡ Clear
-TellsWhether rules (Some direction) rows client user topic Clear =
+SaysWhether rules None rows client user topic outcome = outcome ≡ Clear
+SaysWhether rules (Some direction) rows client user topic Clear =
     allow_by rules rows client user topic direction ≡ true
-TellsWhether rules (Some direction) rows client user topic Remark =
+SaysWhether rules (Some direction) rows client user topic Remark =
     allow_by rules rows client user topic direction ≡ false
 
 -- and so is it of the list with this text
@@ -59,14 +59,14 @@ pub record IsExplained (rules : Rules) (may : Option Direction) (text client : L
     (user : Option (List ℕ)) (topic : List ℕ) (outcome : Outcome) : Type 0 where
   pub rows : List AclRow
   pub read : rows_by rules text ≡ Ok rows
-  pub told : TellsWhether rules may rows client user topic outcome
+  pub shown : SaysWhether rules may rows client user topic outcome
 
 -- the lists with these texts differ so by these rules, and not otherwise: all that changes for a client
--- that a broker can have, and that is asked about, is told, and once
+-- that a broker can have, and that is asked about, is shown, and once
 pub record AreChanges (rules : Rules) (old new : List ℕ) (c : Changes) : Type 0 where
   pub old_rows : AreRows rules old c.old.items
   pub new_rows : AreRows rules new c.new.items
-  pub every : TellsAll rules c.old.items c.new.items c.differences.items
+  pub every : ShowsAll rules c.old.items c.new.items c.differences.items
   pub real : All (IsReal rules c.old.items c.new.items) c.differences.items
   pub once : AreApart c.differences.items
   pub marked : AreMarked rules c.old.items c.new.items c.differences.items
@@ -108,14 +108,14 @@ pub record SomeChanges (rules : Rules) (way : Way) (old new : List AclRow) : Typ
   pub valid : is_name name ≡ true
   pub changes : is_change rules way old new client user name direction ≡ true
 
--- whether the rows allow the same to the clients that a broker can have, and that are asked about, is told; or whether
+-- whether the rows allow the same to the clients that a broker can have, and that are asked about, is shown; or whether
 -- one list allows nothing that the other doesn't
-abbrev pub TellsWhetherSame : Rules → (only : Option Way) → (old new : List AclRow) → Outcome
+abbrev pub SaysWhetherSame : Rules → (only : Option Way) → (old new : List AclRow) → Outcome
     → Type 0
-TellsWhetherSame rules None old new Clear = AllowSame rules (old ++ new) old new
-TellsWhetherSame rules None old new Remark = Differ rules old new
-TellsWhetherSame rules (Some way) old new Clear = NoneChanges rules way old new
-TellsWhetherSame rules (Some way) old new Remark = SomeChanges rules way old new
+SaysWhetherSame rules None old new Clear = AllowSame rules (old ++ new) old new
+SaysWhetherSame rules None old new Remark = Differ rules old new
+SaysWhetherSame rules (Some way) old new Clear = NoneChanges rules way old new
+SaysWhetherSame rules (Some way) old new Remark = SomeChanges rules way old new
 
 -- and so is it of the lists with these texts
 pub record IsCompared (rules : Rules) (only : Option Way) (old new : List ℕ)
@@ -124,7 +124,7 @@ pub record IsCompared (rules : Rules) (only : Option Way) (old new : List ℕ)
   pub new_rows : List AclRow
   pub old_read : rows_by rules old ≡ Ok old_rows
   pub new_read : rows_by rules new ≡ Ok new_rows
-  pub outcome_of : TellsWhetherSame rules only old_rows new_rows outcome
+  pub outcome_of : SaysWhetherSame rules only old_rows new_rows outcome
 
 -- the topic, if there is one, is such that the subscription's filter matches it (MQTT 5.0, section 4.7) and the client may
 -- read it by these rules; and else no topic is
@@ -144,7 +144,7 @@ IsReach rules text client user subscription None = record {
       → allow_by rules rows client user topic Reading ≡ false;
 }
 
--- whether there is a topic is told
+-- whether there is a topic is shown
 abbrev pub IsReached : Rules → (text client : List ℕ) → Option (List ℕ)
     → (subscription : List ℕ) → Outcome → Type 0
 IsReached rules text client user subscription Clear =

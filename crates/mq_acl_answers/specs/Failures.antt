@@ -40,7 +40,7 @@ abbrev pub IsMarkedLine : Rules → (text : List ℕ) → ℕ → Type 0
 IsMarkedLine rules text line =
     (rows : List Row) × AreRows rules text rows × (marked_line rules rows ≡ Some line)
 
--- what is told of the list is so
+-- what is shown of the list is so
 abbrev pub IsListFailure : Rules → ListText → Failure → Type 0
 IsListFailure rules list (failure.Line file line words) =
     (file.now ≡ list.file.now) × IsFaultyLine rules list.text.now line
@@ -62,7 +62,7 @@ IsGivenUp rules list steps (failure.GaveUp file line others) = (rows : List Row)
     × (steps < enough_steps (length rows))
 IsGivenUp rules list steps other = ⊥
 
--- what is told of a list that is linted is so
+-- what is shown of a list that is linted is so
 abbrev pub IsLintFailure : Rules → ListText → (steps : ℕ) → Failure → Type 0
 IsLintFailure rules list steps failure =
     IsListFailure rules list failure ⊎ IsGivenUp rules list steps failure
@@ -76,7 +76,7 @@ IsGivenUpOfTwo rules old new steps (failure.GaveUp file line others) =
     × (steps < enough_steps (length old_rows + length new_rows))
 IsGivenUpOfTwo rules old new steps other = ⊥
 
--- what is told of lists that are compared is so
+-- what is shown of lists that are compared is so
 abbrev pub IsComparisonFailure : Rules → (old new : ListText) → (steps : ℕ) → Failure → Type 0
 IsComparisonFailure rules old new steps failure =
     IsListFailure rules old failure ⊎ IsListFailure rules new failure
@@ -109,7 +109,7 @@ abbrev pub IsLongAt : Rules → (text : List ℕ) → (line : ℕ) → (script :
 IsLongAt rules text line script = (rows : List AclRow) × (rows_by rules text ≡ Ok rows)
     × (has_long_at (list_by rules rows) line (subscriptions (all_lines script)) ≡ true)
 
--- what is told of the script with this name is so of the bytes that were read
+-- what is shown of the script with this name is so of the bytes that were read
 abbrev pub IsScriptFailure : Rules → (text name : List ℕ) → (before after : Option (List ℕ)) → Failure → Type 0
 IsScriptFailure rules text name before after (failure.Read file error) = file.now ≡ name
 IsScriptFailure rules text name before after (failure.LongScript file) =
@@ -133,7 +133,7 @@ abbrev pub IsFewStepsAt : Rules → ListText → (file : List ℕ) → (line ste
 IsFewStepsAt rules list file line steps = (rows : List Row) × AreRows rules list.text.now rows
     × IsRowLine list rows file line × (steps < enough_steps (length rows + 1))
 
--- what is told of a filter where it is asked who may is so: it is none, or a shared one; a level of it is
+-- what is shown of a filter where it is asked who may is so: it is none, or a shared one; a level of it is
 -- too long; by mosquitto's rules a mark is a part of a level; or the steps are spent
 abbrev pub IsWhoFailure : Rules → ListText → (wanted : List ℕ) → (steps : ℕ) → Failure → Type 0
 IsWhoFailure rules list wanted steps (failure.Filter given) =

@@ -12,7 +12,7 @@ use Rattle.mq_lint.specs.declared.remark.RemarkKind.{RemarkKind}
 use Rattle.mq_lint.specs.declared.remark.RemarkKind.TheVariants.{Fault, DeniesNothing}
 use Rattle.mq_acl_answers.specs.Answers.{AreRows}
 use Rattle.mq_acl_answers.specs.declared.outcome.Outcome.{Outcome}
-use Rattle.mq_acl_answers.specs.declared.outcome.Outcome.TheVariants.{Clear, Remark as Told}
+use Rattle.mq_acl_answers.specs.declared.outcome.Outcome.TheVariants.{Clear, Remark as Shown}
 use Rattle.mq_acl_answers.specs.declared.commands.lint.Remarks.{Remarks}
 
 abbrev pub is_fault : RemarkKind → Bool
@@ -31,12 +31,12 @@ abbrev pub has_needless : List Remark → Bool
 has_needless all = list_any (λ remark. matters remark.kind) all
 
 -- these are the lines of the text that repeat another, deny nothing or are needless
-pub record IsNeedlessIn (rules : Rules) (text : List ℕ) (told : List Remark) : Type 0 where
+pub record IsNeedlessIn (rules : Rules) (text : List ℕ) (shown : List Remark) : Type 0 where
   pub rows : List Row
   pub are_rows : AreRows rules text rows
-  pub told_of : AreNeedless rules rows told
+  pub shown_of : AreNeedless rules rows shown
 
--- these are the remarks on the text; needless lines are told of one without faults, and whether it has
+-- these are the remarks on the text; needless lines are shown of one without faults, and whether it has
 -- no rows
 pub record AreRemarks (rules : Rules) (text : List ℕ) (r : Remarks) : Type 0 where
   pub odd : r.odd.items ≡ remarks_of rules text
@@ -69,10 +69,10 @@ pub record HasNeedless (rules : Rules) (text : List ℕ) : Type 0 where
   pub kind : RemarkKind
   pub in_range : place < length rows
   pub is : row ≡ slice_index_or rows place row
-  pub told : IsKind rules rows place row (Some kind)
+  pub shown : IsKind rules rows place row (Some kind)
   pub counts : matters kind ≡ true
 
--- whether something is odd, faulty or needless is told
+-- whether something is odd, faulty or needless is shown
 abbrev pub IsLinted : Rules → List ℕ → Outcome → Type 0
 IsLinted rules text Clear = IsClean rules text
-IsLinted rules text Told = (remarks_of rules text ≢ []) ⊎ HasNeedless rules text
+IsLinted rules text Shown = (remarks_of rules text ≢ []) ⊎ HasNeedless rules text

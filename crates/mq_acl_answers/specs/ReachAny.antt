@@ -42,17 +42,17 @@ NoneMayRead rules rows user wanted = (client topic : List ℕ) → can_be_id cli
     → is_asked rules wanted client user topic ≡ true
     → allow_by rules rows client user topic Reading ≡ false
 
-abbrev pub TellsWhetherAny : Rules → List AclRow → (user : Option (List ℕ)) → (wanted : List ℕ)
+abbrev pub SaysWhetherAny : Rules → List AclRow → (user : Option (List ℕ)) → (wanted : List ℕ)
     → Outcome → Type 0
-TellsWhetherAny rules rows user wanted Clear = AnyMayRead rules rows user wanted
-TellsWhetherAny rules rows user wanted Remark = NoneMayRead rules rows user wanted
+SaysWhetherAny rules rows user wanted Clear = AnyMayRead rules rows user wanted
+SaysWhetherAny rules rows user wanted Remark = NoneMayRead rules rows user wanted
 
 -- and so is it of the list with this text
 pub record IsReachedByAny (rules : Rules) (text : List ℕ) (user : Option (List ℕ))
     (wanted : List ℕ) (outcome : Outcome) : Type 0 where
   pub rows : List AclRow
   pub read : rows_by rules text ≡ Ok rows
-  pub told : TellsWhetherAny rules rows user wanted outcome
+  pub shown : SaysWhetherAny rules rows user wanted outcome
 
 -- ---- how it is found
 abbrev pub whom_for : (user : Option (List ℕ)) → Whom
@@ -79,7 +79,7 @@ pub record IsFoundIn (rules : Rules) (text : List ℕ) (user : Option (List ℕ)
     (found : Option Difference) : Type 0 where
   pub rows : List AclRow
   pub read : rows_by rules text ≡ Ok rows
-  pub told : IsFound rules rows user wanted found
+  pub shown : IsFound rules rows user wanted found
 
 -- no line of the list is for the user; or by mosquitto's rules nothing is asked about it
 abbrev pub IsUserFailure : Rules → ListText → (user : Option (List ℕ)) → Failure → Type 0
@@ -90,7 +90,7 @@ IsUserFailure rules list user (failure.NoUser file name) =
 IsUserFailure rules list user (failure.UserMark name) = IsUnasked rules (whom_for user) name
 IsUserFailure rules list user other = ⊥
 
--- what is told is so
+-- what is shown is so
 abbrev pub IsAnyFailure : Rules → ListText → (user : Option (List ℕ)) → (wanted : List ℕ)
     → (steps : ℕ) → Failure → Type 0
 IsAnyFailure rules list user wanted steps failure =

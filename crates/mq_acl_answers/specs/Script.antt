@@ -1,4 +1,4 @@
--- Which subscriptions of a script are in vain.
+-- Which subscriptions of a script are unreached.
 use Rattle.std.specs.Prelude.{◌≡◌, ◌≢◌, ℕ, List, [], Ok}
 use Rattle.mq_acl.specs.Rows.{AclRow, rows_by}
 use Rattle.mq_acl.specs.Views.{row_views}
@@ -8,7 +8,7 @@ use Rattle.mq_jsonl.specs.Lines.{all_lines}
 use Rattle.mq_reach.specs.Reach.{list_by}
 use Rattle.mq_reach.specs.Search.{IsFound}
 use Rattle.mq_reach.specs.Subscriptions.{Subscription, commands_of, subscriptions}
-use Rattle.mq_reach.specs.Vain.{AreVain}
+use Rattle.mq_reach.specs.Unreached.{AreUnreached}
 use Rattle.mq_reach.specs.declared.search.Findings.{Findings}
 use Rattle.mq_acl_answers.specs.Answers.{AreRows}
 use Rattle.mq_acl_answers.specs.declared.outcome.Outcome.{Outcome}
@@ -18,23 +18,23 @@ use Rattle.mq_acl_answers.specs.declared.outcome.Outcome.TheVariants.{Clear, Rem
 abbrev pub HasCommand : (script : List ℕ) → Type 0
 HasCommand script = commands_of (all_lines script) ≢ []
 
--- the subscriptions of this script that are in vain under the list with this text, and no others
-pub record FindsVain (rules : Rules) (text script : List ℕ) (f : Findings) : Type 0 where
+-- the subscriptions of this script that are unreached under the list with this text, and no others
+pub record FindsUnreached (rules : Rules) (text script : List ℕ) (f : Findings) : Type 0 where
   pub rows : List Row
   pub are_rows : AreRows rules text rows
   pub found : IsFound (list_by rules (row_views rows)) (all_lines script) f
   pub command : HasCommand script
 
--- whether some are in vain is told
-abbrev pub TellsWhetherNone : List Subscription → Outcome → Type 0
-TellsWhetherNone vain Clear = vain ≡ []
-TellsWhetherNone vain Remark = vain ≢ []
+-- whether some are unreached is shown
+abbrev pub SaysWhetherNone : List Subscription → Outcome → Type 0
+SaysWhetherNone unreached Clear = unreached ≡ []
+SaysWhetherNone unreached Remark = unreached ≢ []
 
 -- and so is it of the subscriptions of this script, which has a command, under the list with this text
-pub record AreTold (rules : Rules) (text script : List ℕ) (outcome : Outcome) : Type 0 where
+pub record AreShown (rules : Rules) (text script : List ℕ) (outcome : Outcome) : Type 0 where
   pub rows : List AclRow
   pub read : rows_by rules text ≡ Ok rows
-  pub vain : List Subscription
-  pub are_vain : AreVain (list_by rules rows) (subscriptions (all_lines script)) vain
-  pub told : TellsWhetherNone vain outcome
+  pub unreached : List Subscription
+  pub are_unreached : AreUnreached (list_by rules rows) (subscriptions (all_lines script)) unreached
+  pub shown : SaysWhetherNone unreached outcome
   pub command : HasCommand script

@@ -68,7 +68,7 @@ abbrev pub is_other : List AclRow → (only : Option (List ℕ)) → Option (Lis
 is_other rows None user = true
 is_other rows (Some only) user = not (list_any (λ word. means rows word user) (words_in only))
 
--- ---- what is told
+-- ---- what is shown
 -- some client that isn't left out may, in a direction that is asked of
 pub record OthersMay (rules : Rules) (rows : List AclRow) (wanted : List ℕ)
     (access : Option Direction) (only : Option (List ℕ)) : Type 0 where
@@ -92,13 +92,13 @@ NoOtherMay rules rows wanted access only = (direction : Direction) (client topic
     → is_other rows only user ≡ true → is_asked rules wanted client user topic ≡ true
     → allow_by rules rows client user topic direction ≡ false
 
--- where some are left out, it is told whether others may
-abbrev pub TellsWhetherOthers : Rules → List AclRow → (wanted : List ℕ)
+-- where some are left out, it is shown whether others may
+abbrev pub SaysWhetherOthers : Rules → List AclRow → (wanted : List ℕ)
     → (access : Option Direction) → (only : Option (List ℕ)) → Outcome → Type 0
-TellsWhetherOthers rules rows wanted access None outcome = outcome ≡ Clear
-TellsWhetherOthers rules rows wanted access (Some only) Clear =
+SaysWhetherOthers rules rows wanted access None outcome = outcome ≡ Clear
+SaysWhetherOthers rules rows wanted access (Some only) Clear =
     NoOtherMay rules rows wanted access (Some only)
-TellsWhetherOthers rules rows wanted access (Some only) Remark =
+SaysWhetherOthers rules rows wanted access (Some only) Remark =
     OthersMay rules rows wanted access (Some only)
 
 -- and so is it of the list with this text
@@ -106,7 +106,7 @@ pub record IsWho (rules : Rules) (text wanted : List ℕ) (access : Option Direc
     (only : Option (List ℕ)) (outcome : Outcome) : Type 0 where
   pub rows : List AclRow
   pub read : rows_by rules text ≡ Ok rows
-  pub told : TellsWhetherOthers rules rows wanted access only outcome
+  pub shown : SaysWhetherOthers rules rows wanted access only outcome
 
 -- ---- by classes
 -- the word means the clients of the class
@@ -123,5 +123,5 @@ is_kept None class = true
 is_kept (Some only) class = not (is_left_out only class)
 
 -- it is of a direction that is asked of, and of clients that aren't left out
-abbrev pub is_told : (access : Option Direction) → (only : Option (List ℕ)) → Difference → Bool
-is_told access only d = is_wanted access d.direction && is_kept only d.class
+abbrev pub is_shown : (access : Option Direction) → (only : Option (List ℕ)) → Difference → Bool
+is_shown access only d = is_wanted access d.direction && is_kept only d.class

@@ -38,7 +38,7 @@ pub fn print_outcome<'a, W: Write>(
     answer: Result<String, AllocError>,
     outcome: Outcome,
 ) -> Result<Outcome, Failure<'a>>
-    ensures ok { IfOk result (λ told. told ≡ outcome) }
+    ensures ok { IfOk result (λ shown. shown ≡ outcome) }
     ensures err { IfErr result (λ failure. failure_status failure ≡ 3) }
 {
     print_answer(out, answer)?;

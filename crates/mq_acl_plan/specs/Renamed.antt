@@ -9,7 +9,7 @@ use Rattle.mq_plan.specs.Rules.{out_of_memory as plan_memory, rules_of}
 use Rattle.mq_plan.specs.declared.rule.PlanRule.{PlanRule}
 use Rattle.mq_through.specs.Checks.{IsThroughFault}
 use Rattle.mq_through.specs.declared.fault.ThroughFault.{ThroughFault}
-use Rattle.mq_through.specs.Through.{IsQuestion, IsReal, Question, TellsAll, new_allows}
+use Rattle.mq_through.specs.Through.{IsQuestion, IsReal, Question, ShowsAll, new_allows}
 use Rattle.mq_through.specs.Through.{old_allows}
 use Rattle.mq_acl_plan.specs.declared.fault.PlanAnswerFault.{PlanAnswerFault}
 use Rattle.mq_acl_plan.specs.declared.fault.PlanAnswerFault.TheVariants as faults
@@ -20,7 +20,7 @@ pub record AreRenamed (old new plan : List ℕ) (c : RenamedChanges) : Type 0 wh
   pub old_rows : rows_by Own old ≡ Ok (row_views c.old.items)
   pub new_rows : rows_by Own new ≡ Ok (row_views c.new.items)
   pub rules : rules_of plan ≡ Ok c.plan
-  pub every : TellsAll c.plan c.old.items c.new.items c.renamed.items
+  pub every : ShowsAll c.plan c.old.items c.new.items c.renamed.items
   pub real : All (IsReal c.plan c.old.items c.new.items) c.renamed.items
 
 -- lists and a plan have these texts, and can't be compared for this reason

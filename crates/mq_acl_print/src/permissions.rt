@@ -252,7 +252,7 @@ fn by_direction(alloc: Global, granted: Vec<Difference>) -> Result<Vec<Differenc
     Ok(reading)
 }
 
-fn told<'a>(
+fn permissions_text<'a>(
     alloc: Global,
     list: Lines<'a, 'a, 'a>,
     asked: Asked<'a>,
@@ -288,5 +288,5 @@ pub fn permissions_text(
         file: list.file,
         lines: &lines,
     };
-    told(alloc, list, asked, &granted, refused, json)
+    permissions_text(alloc, list, asked, &granted, refused, json)
 }

@@ -85,7 +85,7 @@ fn add_faulty(text: &mut String, script: &str, counts: Counts) -> Result<(), All
 
 fn table(alloc: Global, script: &str, findings: &Findings) -> Result<String, AllocError> {
     let mut rows = Vec::new(alloc);
-    for subscription in &findings.vain {
+    for subscription in &findings.unreached {
         rows.push(row_of(alloc, script, subscription)?)?;
     }
     let widths = widths_of(&rows);
@@ -94,9 +94,12 @@ fn table(alloc: Global, script: &str, findings: &Findings) -> Result<String, All
         add_row(&mut text, row, widths)?;
     }
     add_faulty(&mut text, script, findings.counts)?;
-    let vain = findings.vain.len();
+    let unreached = findings.unreached.len();
     let all = findings.counts.subscriptions;
-    writeln!(text, "{vain} of {all} subscriptions can receive nothing")?;
+    writeln!(
+        text,
+        "{unreached} of {all} subscriptions can receive nothing"
+    )?;
     Ok(text)
 }
 
@@ -126,7 +129,7 @@ fn add_subscription<'a>(
 fn add_counts(
     alloc: Global,
     text: &mut String,
-    vain: usize,
+    unreached: usize,
     counts: Counts,
 ) -> Result<(), AllocError> {
     add_object(
@@ -135,7 +138,7 @@ fn add_counts(
         &[
             ("first_invalid_line", Datum::NumberIf(counts.first_faulty)),
             ("invalid_lines", Datum::Number(counts.faulty)),
-            ("receive_nothing", Datum::Number(vain as u64)),
+            ("receive_nothing", Datum::Number(unreached as u64)),
             ("subscriptions", Datum::Number(counts.subscriptions)),
         ],
     )
@@ -143,10 +146,10 @@ fn add_counts(
 
 fn json_lines(alloc: Global, script: &str, findings: &Findings) -> Result<String, AllocError> {
     let mut text = String::new(alloc);
-    for subscription in &findings.vain {
+    for subscription in &findings.unreached {
         add_subscription(alloc, &mut text, script, subscription)?;
     }
-    add_counts(alloc, &mut text, findings.vain.len(), findings.counts)?;
+    add_counts(alloc, &mut text, findings.unreached.len(), findings.counts)?;
     Ok(text)
 }
 

@@ -10,7 +10,8 @@ use Rattle.mq_acl.specs.declared.access.Direction.{Direction}
 use Rattle.mq_acl.specs.declared.row.Row.{Row}
 use Rattle.mq_acl.specs.declared.rules.Rules.{Rules}
 use Rattle.mq_findings.specs.Classes.{is_in}
-use Rattle.mq_findings.specs.Differences.{IsReal, TellsAll, is_told_of, same_direction, same_reason}
+use Rattle.mq_findings.specs.Differences.{IsReal, ShowsAll}
+use Rattle.mq_findings.specs.Differences.{is_shown_of, same_direction, same_reason}
 use Rattle.mq_findings.specs.Differences.{same_start, same_way}
 use Rattle.mq_findings.specs.Reasons.{reason_of}
 use Rattle.mq_findings.specs.declared.difference.Difference.{Difference}
@@ -30,12 +31,12 @@ way_itself : (way : Way) → same_way way way ≡ true
 way_itself Gained = refl
 way_itself Lost = refl
 
--- what is told of a change is of its way
-told_way : (rules : Rules) (old new : List Row) (way : Way) (direction : Direction)
+-- what is shown of a change is of its way
+shown_way : (rules : Rules) (old new : List Row) (way : Way) (direction : Direction)
     (client : List ℕ) (user : Option (List ℕ)) (topic : List ℕ) (d : Difference)
-    → is_told_of rules old new way direction client user topic d ≡ true
+    → is_shown_of rules old new way direction client user topic d ≡ true
     → same_way d.way way ≡ true
-told_way rules old new way direction client user topic d e =
+shown_way rules old new way direction client user topic d e =
     let whole = and_parts (is_in (row_views old) (row_views new) user d.class
     && same_direction direction d.direction && same_way way d.way && same_start topic d.topic)
     (same_reason (reason_of rules old client user topic direction) d.old_reason
@@ -53,15 +54,15 @@ true_unless false f = f refl
 
 -- where none is of the way, nothing changes so
 module _ (rules : Rules) (old new : List Row) (all : List Difference)
-    (told : TellsAll rules old new all) where
+    (shown : ShowsAll rules old new all) where
   unless : (way : Way) (direction : Direction) (client topic : List ℕ)
       (user : Option (List ℕ)) → list_any (λ d. same_way d.way way) all ≡ false
-      → list_any (is_told_of rules old new way direction client user topic) all ≡ true
+      → list_any (is_shown_of rules old new way direction client user topic) all ≡ true
       → false ≡ true
   unless way direction client topic user none some = sym none
-      ∙ any_weaker (is_told_of rules old new way direction client user topic)
+      ∙ any_weaker (is_shown_of rules old new way direction client user topic)
       (λ (d : Difference). same_way d.way way)
-      (told_way rules old new way direction client user topic) all some
+      (shown_way rules old new way direction client user topic) all some
 
   pub within : (way : Way) → find (λ (d : Difference). same_way d.way way) all ≡ None
       → IsKept rules way old new
@@ -69,12 +70,12 @@ module _ (rules : Rules) (old new : List Row) (all : List Difference)
       true_unless (allow_by rules (row_views old) client user topic direction) (λ b.
       unless Gained direction client topic user
       (found_none (λ (d : Difference). same_way d.way Gained) all e)
-      (told Gained direction client topic user c u q v (λ i. a i && not (b i))))
+      (shown Gained direction client topic user c u q v (λ i. a i && not (b i))))
   within Lost e = λ direction client topic user c u q v a.
       true_unless (allow_by rules (row_views new) client user topic direction) (λ b.
       unless Lost direction client topic user
       (found_none (λ (d : Difference). same_way d.way Lost) all e)
-      (told Lost direction client topic user c u q v (λ i. a i && not (b i))))
+      (shown Lost direction client topic user c u q v (λ i. a i && not (b i))))
 
 -- one that is found is of the way
 pub beyond : (rules : Rules) (old new : List Row) (way : Way) (all : List Difference)

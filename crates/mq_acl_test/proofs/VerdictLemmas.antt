@@ -8,7 +8,7 @@ use Rattle.std.proofs.lemmas.List.Elements.{All-cons, All-head, All-nil, All-pus
 use Rattle.std.proofs.lemmas.List.Elements.{Contains-append_right, Contains-get_or}
 use Rattle.mq_acl.specs.declared.rules.Rules.{Rules}
 use Rattle.mq_acl_test.specs.Faults.{IsFaultOf, IsTestFault}
-use Rattle.mq_acl_test.specs.Findings.{IsFinding, IsVerdict, TellsWhetherAll, is_holds}
+use Rattle.mq_acl_test.specs.Findings.{IsFinding, IsVerdict, SaysWhetherAll, is_holds}
 use Rattle.mq_acl_test.specs.Questions.{Question, asked_view, asked_views}
 use Rattle.mq_acl_test.specs.declared.asked.Asked.{Asked}
 use Rattle.mq_acl_test.specs.declared.fault.TestFault.{TestFault}
@@ -62,20 +62,20 @@ holds_is found.PartMark e = absurd (let q : false ≡ true = e in cc)
 holds_is found.NoList e = absurd (let q : false ≡ true = e in cc)
 
 -- one more line
-one_told : (rules : Rules) (lists : List ReadList) (q : Question) (f : Finding)
+one_shown : (rules : Rules) (lists : List ReadList) (q : Question) (f : Finding)
     (all : List Question) (b r : Bool) → is_holds f ≡ b → IsFinding rules lists q f
-    → TellsWhetherAll rules lists all r → TellsWhetherAll rules lists (q ∷ all) (b && r)
-one_told rules lists q f all true true e is k =
+    → SaysWhetherAll rules lists all r → SaysWhetherAll rules lists (q ∷ all) (b && r)
+one_shown rules lists q f all true true e is k =
     All-cons (λ p. IsFinding rules lists p found.Holds) q all
     (subst (IsFinding rules lists q) (holds_is f e) is) k
-one_told rules lists q f all true false e is k = record {
+one_shown rules lists q f all true false e is k = record {
   question = k.question;
   asked = Contains-append_right (q ∷ []) all k.question k.asked;
   finding = k.finding;
   fails = k.fails;
   is = k.is;
 }
-one_told rules lists q f all false r e is k = record {
+one_shown rules lists q f all false r e is k = record {
   question = q;
   asked = (0, omega arith, refl);
   finding = f;
@@ -83,13 +83,13 @@ one_told rules lists q f all false r e is k = record {
   is = is;
 }
 
-pub all_told : (rules : Rules) (lists : List ReadList) (all : List Verdict)
+pub all_shown : (rules : Rules) (lists : List ReadList) (all : List Verdict)
     → All (IsVerdict rules lists) all
-    → TellsWhetherAll rules lists (map (λ v. asked_view v.asked) all)
+    → SaysWhetherAll rules lists (map (λ v. asked_view v.asked) all)
     (list_all (λ v. is_holds v.finding) all)
-all_told rules lists [] h = All-nil (λ q. IsFinding rules lists q found.Holds)
-all_told rules lists (v ∷ more) h =
-    one_told rules lists (asked_view v.asked) v.finding (map (λ v. asked_view v.asked) more)
+all_shown rules lists [] h = All-nil (λ q. IsFinding rules lists q found.Holds)
+all_shown rules lists (v ∷ more) h =
+    one_shown rules lists (asked_view v.asked) v.finding (map (λ v. asked_view v.asked) more)
     (is_holds v.finding) (list_all (λ v. is_holds v.finding) more) refl
     (All-head (IsVerdict rules lists) v more h)
-    (all_told rules lists more (All-tail (IsVerdict rules lists) v more h))
+    (all_shown rules lists more (All-tail (IsVerdict rules lists) v more h))

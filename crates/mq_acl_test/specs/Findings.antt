@@ -108,6 +108,6 @@ pub record SomeFails (rules : Rules) (lists : List ReadList) (all : List Questio
   pub fails : is_holds finding ≡ false
   pub is : IsFinding rules lists question finding
 
-abbrev pub TellsWhetherAll : Rules → List ReadList → List Question → Bool → Type 0
-TellsWhetherAll rules lists all true = AllHold rules lists all
-TellsWhetherAll rules lists all false = SomeFails rules lists all
+abbrev pub SaysWhetherAll : Rules → List ReadList → List Question → Bool → Type 0
+SaysWhetherAll rules lists all true = AllHold rules lists all
+SaysWhetherAll rules lists all false = SomeFails rules lists all

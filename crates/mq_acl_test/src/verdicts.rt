@@ -4,7 +4,7 @@ ghost use Rattle.std.specs.List.{list_all};
 ghost use Rattle.mq_acl.specs.declared.rules.Rules.{Rules};
 ghost use Rattle.mq_expect.specs.Files.{numbered_views};
 ghost use Rattle.mq_acl_test.specs.Faults.{IsTestFault};
-ghost use Rattle.mq_acl_test.specs.Findings.{IsVerdict, TellsWhetherAll, is_holds};
+ghost use Rattle.mq_acl_test.specs.Findings.{IsVerdict, SaysWhetherAll, is_holds};
 ghost use Rattle.mq_acl_test.specs.Questions.{asked_view, questions};
 ghost use Rattle.mq_acl_test.specs.declared.list.ReadList.{ReadList};
 
@@ -84,8 +84,8 @@ fn each_holds(verdicts: &[Verdict<'_, '_>]) -> bool
 /// Whether each line holds.
 pub fn all_hold(verdicts: &[Verdict<'_, '_>]) -> bool
     ensures each { result ≡ list_all (λ v. is_holds v.finding) verdicts.now }
-    ensures told { (rules : Rules) (lists : List ReadList) → All (IsVerdict rules lists) verdicts.now
-        → TellsWhetherAll rules lists (map (λ v. asked_view v.asked) verdicts.now) result }
+    ensures shown { (rules : Rules) (lists : List ReadList) → All (IsVerdict rules lists) verdicts.now
+        → SaysWhetherAll rules lists (map (λ v. asked_view v.asked) verdicts.now) result }
 {
     each_holds(verdicts)
 }

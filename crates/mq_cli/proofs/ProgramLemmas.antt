@@ -20,7 +20,7 @@ use Rattle.mq_cli.specs.CommandLine.{AreGiven, given, rules_given}
 use Rattle.mq_run.specs.Ending.{AppendsSome}
 use Rattle.mq_run.specs.Output.{output}
 use Rattle.mq_cli.specs.Program.{script_file, failure_status, limits_by, limits_given, BeginsIn}
-use Rattle.mq_cli.specs.Program.{IsScript, WritesFront, TellsUsage}
+use Rattle.mq_cli.specs.Program.{IsScript, WritesFront, PrintsUsage}
 use Rattle.mq_run.proofs.FrontLemmas.{AppendsSome-none}
 
 -- where the words have no fault, memory ran out
@@ -50,44 +50,45 @@ failure_two (failure.AclUtf8 file) two three = two refl
 failure_two (failure.AclLine file line kind) two three = two refl
 failure_two (failure.Script file) two three = two refl
 
--- and so has the program, where it tells one: 3 too where there was no memory for the text
-pub told_two : (f : Failure) (status : ℕ) → (status ≡ failure_status f) ⊎ (status ≡ 3)
+-- and so has the program, where it shows one: 3 too where there was no memory for the text
+pub shown_two : (f : Failure) (status : ℕ) → (status ≡ failure_status f) ⊎ (status ≡ 3)
     → (status ≡ 2 → ⊥) → (status ≡ 3 → ⊥) → ⊥
-told_two f status (inl told) two three = failure_two f (λ e. two (told ∙ e)) (λ e. three (told ∙ e))
-told_two f status (inr memory) two three = three memory
+shown_two f status (inl shown) two three = failure_two f (λ e. two (shown ∙ e)) (λ e. three
+    (shown ∙ e))
+shown_two f status (inr memory) two three = three memory
 
 -- where a failure's status is 3, so is the program's
-pub told_three : (f : Failure) (status : ℕ) → (status ≡ failure_status f) ⊎ (status ≡ 3)
+pub shown_three : (f : Failure) (status : ℕ) → (status ≡ failure_status f) ⊎ (status ≡ 3)
     → failure_status f ≡ 3 → status ≡ 3
-told_three f status (inl told) e = told ∙ e
-told_three f status (inr memory) e = memory
+shown_three f status (inl shown) e = shown ∙ e
+shown_three f status (inr memory) e = memory
 
 -- where the program's status is 2, so is the failure's
-pub told_unreadable : (f : Failure) (status : ℕ) → (status ≡ failure_status f) ⊎ (status ≡ 3)
+pub shown_unreadable : (f : Failure) (status : ℕ) → (status ≡ failure_status f) ⊎ (status ≡ 3)
     → status ≡ 2 → failure_status f ≡ 2
-told_unreadable f status (inl told) e = sym told ∙ e
-told_unreadable f status (inr memory) e = absurd (omega arith)
+shown_unreadable f status (inl shown) e = sym shown ∙ e
+shown_unreadable f status (inr memory) e = absurd (omega arith)
 
 -- ## Words that give no options
 
 -- for lack of memory nothing is written
 pub usage_memory : (fault : UsageFault) (status : ℕ) (before after flushed : Option (List ℕ))
-    → TellsUsage fault status before after flushed
+    → PrintsUsage fault status before after flushed
     → fault ≡ Memory → (status ≡ 3) × (after ≡ before)
-usage_memory (Help text) status before after flushed tells e =
+usage_memory (Help text) status before after flushed shows e =
     absurd (let bad : Help text ≡ Memory = e in cc)
-usage_memory (Usage text) status before after flushed tells e =
+usage_memory (Usage text) status before after flushed shows e =
     absurd (let bad : Usage text ≡ Memory = e in cc)
-usage_memory Memory status before after flushed tells e = tells
+usage_memory Memory status before after flushed shows e = shows
 
 -- neither 2 nor 3 is the status of help alone, all of it
 pub usage_done : (fault : UsageFault) (status : ℕ) (before after flushed : Option (List ℕ))
-    → TellsUsage fault status before after flushed
+    → PrintsUsage fault status before after flushed
     → (status ≡ 2 → ⊥) → (status ≡ 3 → ⊥) → (status ≡ 0) × (flushed ≡ after)
 usage_done (Help text) status before after flushed (inl done) two three = (done.0, done.2)
 usage_done (Help text) status before after flushed (inr failed) two three = absurd (three failed.0)
-usage_done (Usage text) status before after flushed tells two three = absurd (two tells.0)
-usage_done Memory status before after flushed tells two three = absurd (three tells.0)
+usage_done (Usage text) status before after flushed shows two three = absurd (two shows.0)
+usage_done Memory status before after flushed shows two three = absurd (three shows.0)
 
 -- ## The world and the script of a run
 
@@ -99,14 +100,14 @@ begins_empty rules None limits w e begins = begins.2
 begins_empty rules (Some x) limits w e begins = absurd (let bad : Some x ≡ None = e in cc)
 
 -- where no script file is named, the script is the input, if that is known
-pub script_told : (file to_come : Option (List ℕ)) (script bytes : List ℕ) → file ≡ None
+pub script_shown : (file to_come : Option (List ℕ)) (script bytes : List ℕ) → file ≡ None
     → to_come ≡ Some bytes → IsScript file to_come script → script ≡ bytes
-script_told None None script bytes e f is = absurd (let bad : None ≡ Some bytes = f in cc)
-script_told None (Some xs) script bytes e f is = let same : xs ≡ bytes =
+script_shown None None script bytes e f is = absurd (let bad : None ≡ Some bytes = f in cc)
+script_shown None (Some xs) script bytes e f is = let same : xs ≡ bytes =
     let g : Some xs ≡ Some bytes = f in cc in is ∙ same
-script_told (Some x) to_come script bytes e f is = absurd (let bad : Some x ≡ None = e in cc)
+script_shown (Some x) to_come script bytes e f is = absurd (let bad : Some x ≡ None = e in cc)
 
--- what is told of a world that the run begins in is told of some world that it begins in
+-- what is shown of a world that the run begins in is shown of some world that it begins in
 pub IfOk-begun : {T E : Type 0} (result : Result T E) (rules : Rules) (file : Option (List ℕ))
     (limits : Limits) (w : World) (Q : List ℕ → Type 0) (P : World → List ℕ → T → Type 0)
     → BeginsIn rules file limits w
@@ -116,7 +117,7 @@ pub IfOk-begun : {T E : Type 0} (result : Result T E) (rules : Rules) (file : Op
 IfOk-begun (Ok x) rules file limits w Q P begins h = (w, begins, h.0, h.1, h.2)
 IfOk-begun (Err e) rules file limits w Q P begins h = tt
 
--- where a script file is named, any script may be its text: what is told of some script stays so
+-- where a script file is named, any script may be its text: what is shown of some script stays so
 pub IfOk-file : {T E : Type 0} (result : Result T E) (name : List ℕ)
     (file to_come : Option (List ℕ)) (P : List ℕ → T → Type 0)
     → Some name ≡ file → IfOk result (λ x. (script : List ℕ) × P script x)
@@ -125,7 +126,7 @@ IfOk-file (Ok x) name file to_come P e h =
     (h.0, subst (λ (f : Option (List ℕ)). IsScript f to_come h.0) e tt, h.1)
 IfOk-file (Err e) name file to_come P f h = tt
 
--- what is told of some script is so without the first of two claims about it
+-- what is shown of some script is so without the first of two claims about it
 pub IfOk-some : {T E : Type 0} (result : Result T E) (Q : List ℕ → Type 0) (P : List ℕ → T → Type 0)
     → IfOk result (λ x. (script : List ℕ) × Q script × P script x)
     → IfOk result (λ x. (script : List ℕ) × P script x)

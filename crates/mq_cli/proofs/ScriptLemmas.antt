@@ -1,4 +1,4 @@
--- The end of a run, told of the script that its reader tells.
+-- The end of a run, spoken of by the script that its reader shows.
 use Rattle.std.proofs.Common.{◌≡◌, ℕ, List, [], ◌++◌, Option, Some, None, Result, Ok, refl, sym}
 use Rattle.std.specs.Io.KnownBytes.{Consumes, IsAtEnd}
 use Rattle.mq_world.specs.World.{World}
@@ -15,7 +15,7 @@ is_script : (a b : Option (List ℕ)) (given : List ℕ) → Consumes a b given 
 is_script None b given c end = tt
 is_script (Some x) b given c end = whole (Some x) b x given refl c end
 
--- ended well, it answers some script, which is all that the reader tells
+-- ended well, it answers some script, which is all that the reader shows
 pub EndsOver-script : (limit : ℕ) (w : World) (summary : Summary) (reader writer : Watched)
     (before : List ℕ)
     → EndsOver limit w (Ok summary) reader writer → writer.before ≡ Some before
@@ -32,17 +32,17 @@ EndsOver-script limit w summary reader writer before end e = (
 
 -- ## What was written, however the run ended
 
--- what the reader still has to give, and all that it tells
-told_at : (a b : Option (List ℕ)) (given : List ℕ) → Consumes a b given → (rest : List ℕ)
+-- what the reader still has to give, and all that it shows
+shown_at : (a b : Option (List ℕ)) (given : List ℕ) → Consumes a b given → (rest : List ℕ)
     × (IsAtEnd b → rest ≡ []) × IsScript None a (given ++ rest)
-told_at None b given c = ([], λ _. refl, tt)
-told_at (Some x) None given c = absurd c
-told_at (Some x) (Some y) given c = (y, λ e. e, sym c)
+shown_at None b given c = ([], λ _. refl, tt)
+shown_at (Some x) None given c = absurd c
+shown_at (Some x) (Some y) given c = (y, λ e. e, sym c)
 
 -- however a run over its input ends, it wrote a front of what all of the input writes
 pub EndsOver-front : (limit : ℕ) (w : World) (result : Result Summary RunFault)
     (reader writer : Watched) → EndsOver limit w result reader writer
     → WritesFront w None reader.before writer.before writer.after
 EndsOver-front limit w result reader writer end =
-    let told = told_at reader.before reader.after end.0 end.1 in
-    (end.0 ++ told.0, told.2, Ending-front limit w result _ told.0 told.1 end.2)
+    let shown = shown_at reader.before reader.after end.0 end.1 in
+    (end.0 ++ shown.0, shown.2, Ending-front limit w result _ shown.0 shown.1 end.2)

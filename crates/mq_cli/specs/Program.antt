@@ -55,7 +55,7 @@ abbrev pub BeginsIn : Rules → (acl_file : Option (List ℕ)) → Limits → Wo
 BeginsIn rules acl_file limits w = (access : Option AccessList) × BeginsWith rules acl_file access
     × (w ≡ ruled rules (within limits (fresh_world access)))
 
--- the script: where no file is named, all that the input tells
+-- the script: where no file is named, all that the input shows
 abbrev pub IsScript : (file to_come : Option (List ℕ)) → List ℕ → Type 0
 IsScript None None script = ⊤
 IsScript None (Some bytes) script = script ≡ bytes
@@ -73,17 +73,17 @@ pub record AnswersAll (w : World) (script before : List ℕ) (after : Option (Li
   pub written : after ≡ Some (before ++ output w script)
   pub ended : status ≡ (if refused_from w [] (all_lines script) == 0 then 0 else 1)
 
--- a front of what some script writes was written; where no file is named, that script is all that the input tells
+-- a front of what some script writes was written; where no file is named, that script is all that the input shows
 abbrev pub WritesFront : World → (file to_come : Option (List ℕ)) → (before after : Option (List ℕ))
     → Type 0
 WritesFront w file to_come before after =
     (script : List ℕ) × IsScript file to_come script × AppendsSome before after (output w script)
 
 -- what is written where the words give no options: help, all of it where the status is 0, and else nothing
-abbrev pub TellsUsage : UsageFault → (status : ℕ) → (before after flushed : Option (List ℕ))
+abbrev pub PrintsUsage : UsageFault → (status : ℕ) → (before after flushed : Option (List ℕ))
     → Type 0
-TellsUsage (Help text) status before after flushed =
+PrintsUsage (Help text) status before after flushed =
     ((status ≡ 0) × Appends before after (string_bytes text) × (flushed ≡ after))
     ⊎ ((status ≡ 3) × AppendsSome before after (string_bytes text))
-TellsUsage (Usage text) status before after flushed = (status ≡ 2) × (after ≡ before)
-TellsUsage Memory status before after flushed = (status ≡ 3) × (after ≡ before)
+PrintsUsage (Usage text) status before after flushed = (status ≡ 2) × (after ≡ before)
+PrintsUsage Memory status before after flushed = (status ≡ 3) × (after ≡ before)

@@ -79,7 +79,7 @@ impl<'a> Failure<'a> {
     pub(crate) fn of_open(self, error: &io::Error) -> Failure<'a>
         ensures memory { error_kind error.now ≡ ErrorKind.OutOfMemory → result ≡ Failure.Memory }
         ensures other { error_kind error.now ≢ ErrorKind.OutOfMemory → result ≡ self.entry }
-        ensures told { (result ≡ self.entry) ⊎ (result ≡ Failure.Memory) }
+        ensures shown { (result ≡ self.entry) ⊎ (result ≡ Failure.Memory) }
     {
         match error.kind() {
             ErrorKind::OutOfMemory => Failure::Memory,

@@ -13,7 +13,7 @@ ghost use Rattle.mq_cli.specs.CommandLine.{faults_in, given, rules_given, IsGive
 ghost use Rattle.mq_run.specs.Ending.{AppendsSome};
 ghost use Rattle.mq_run.specs.Output.{output};
 ghost use Rattle.mq_cli.specs.Program.{script_file, failure_status, limits_by, limits_given};
-ghost use Rattle.mq_cli.specs.Program.{TellsUsage};
+ghost use Rattle.mq_cli.specs.Program.{PrintsUsage};
 ghost use Rattle.mq_cli.specs.Program.{BeginsWith, BeginsIn, IsScript, AnswersScript, AnswersAll};
 ghost use Rattle.mq_cli.specs.Program.{WritesFront};
 
@@ -38,7 +38,7 @@ fn open<'a, R: Files>(
     file: &'a str,
     failure: Failure<'a>,
 ) -> Result<StdSource<R::File>, Failure<'a>>
-    ensures { IfErr result (λ told. (told ≡ failure.entry) ⊎ (told ≡ Failure.Memory)) }
+    ensures { IfErr result (λ shown. (shown ≡ failure.entry) ⊎ (shown ≡ Failure.Memory)) }
 {
     match fs::open(rt, file) {
         Ok(opened) => Ok(StdSource::new(opened)),
@@ -205,7 +205,7 @@ fn print<W: Sink>(writer: &mut W, text: &str) -> Result<(), RunFault>
 
 /// Prints a text, or that there was no memory for it, and answers the exit status: the one that is
 /// given, or that of want of memory. A failed write is ignored.
-fn tell<E: Sink>(text: Result<String, AllocError>, status: u8, err: &mut E) -> u8
+fn print_error<E: Sink>(text: Result<String, AllocError>, status: u8, err: &mut E) -> u8
     ensures { result ≡ (if is_ok text then status else 3) }
 {
     let (line, status) = match &text {
@@ -222,13 +222,13 @@ fn report<E: Sink>(alloc: Global, failure: Failure<'_>, err: &mut E) -> u8
     ensures status { (result ≡ failure_status failure.entry) ⊎ (result ≡ 3) }
 {
     let text = format!(in alloc; "mqroute: {failure}\n");
-    tell(text, failure.status(), err)
+    print_error(text, failure.status(), err)
 }
 
 /// Prints help, or why the words are not understood, and answers the status.
 fn report_usage<W: Sink, E: Sink>(alloc: Global, fault: UsageFault, out: &mut W, err: &mut E) -> u8
     ensures bound { result ≤ 3 }
-    ensures tells { TellsUsage fault result (W.taken out.old) (W.taken out.new)
+    ensures shows { PrintsUsage fault result (W.taken out.old) (W.taken out.new)
         (W.flushed out.new) }
     ensures unreadable { result ≡ 2 → out.new ≡ out.old }
     ensures quiet { result ≡ 0 → err.new ≡ err.old }
@@ -238,7 +238,7 @@ fn report_usage<W: Sink, E: Sink>(alloc: Global, fault: UsageFault, out: &mut W,
             Ok(()) => 0,
             Err(fault) => report(alloc, Failure::of_run(fault), err),
         },
-        UsageFault::Usage(text) => tell(Ok(text), UNREADABLE, err),
+        UsageFault::Usage(text) => print_error(Ok(text), UNREADABLE, err),
         UsageFault::Memory => report(alloc, Failure::Memory, err),
     }
 }
@@ -306,7 +306,7 @@ pub fn start<R: Files, S: Source, W: Sink, E: Sink>(
         faults_in given_words ≢ []
         → (input.new ≡ input.old)
         × ((fault : UsageFault) × IsFaultOf (faults_in given_words) fault
-        × TellsUsage fault result (W.taken out.old) (W.taken out.new) (W.flushed out.new)) }
+        × PrintsUsage fault result (W.taken out.old) (W.taken out.new) (W.flushed out.new)) }
 
     // At a status of 0 or 1 all that was written is handed on, and nothing is printed.
     ensures flushed { result ≢ 2 → result ≢ 3 → W.flushed out.new ≡ W.taken out.new }

@@ -8,7 +8,7 @@ use Rattle.mq_cover.specs.declared.others.Others.{Others}
 use Rattle.mq_cover.specs.declared.start.Start.{Start}
 use Rattle.mq_cover.specs.declared.start.Start.TheVariants.{Plain, Dollar, Slash, Inside}
 
--- whether a name may go on with this level: at its front its first byte tells the two kinds of
+-- whether a name may go on with this level: at its front its first byte shows the two kinds of
 -- names apart
 abbrev pub fits_start : Start → List ℕ → Bool
 fits_start Plain level = not (begins_with_dollar level)

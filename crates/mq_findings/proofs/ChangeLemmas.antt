@@ -22,7 +22,7 @@ use Rattle.mq_witness.specs.Rows.{is_user_of}
 use Rattle.mq_witness.specs.declared.clients.Clients.{Clients}
 use Rattle.mq_witness.specs.declared.clients.Clients.TheVariants as clients
 use Rattle.mq_findings.specs.ByOwner.{IsGrouped, is_for}
-use Rattle.mq_findings.specs.Changes.{TellsIn, TellsUser}
+use Rattle.mq_findings.specs.Changes.{ShowsChangesIn, ShowsChangesOf}
 use Rattle.mq_findings.specs.Faults.{IsComparisonFault}
 use Rattle.mq_findings.specs.Steps.{enough_steps}
 use Rattle.mq_findings.specs.declared.fault.ComparisonFault.{ComparisonFault}
@@ -30,7 +30,7 @@ use Rattle.mq_findings.specs.declared.fault.ComparisonFault.TheVariants as compa
 use Rattle.mq_findings.specs.declared.fault.Side.TheVariants.{Old, New}
 use Rattle.mq_findings.specs.Classes.{can_be_user}
 use Rattle.mq_findings.specs.Differences.{AreMarked, AreUnnamed, IsKnown, IsMarked, IsReal}
-use Rattle.mq_findings.specs.Differences.{ShowsOthers, TellsAll, is_compared, is_told_of}
+use Rattle.mq_findings.specs.Differences.{ShowsOthers, ShowsAll, is_compared, is_shown_of}
 use Rattle.mq_findings.specs.Marks.{ArePlaced, IsKept, rows_of}
 use Rattle.mq_findings.specs.Questions.{AreJudges, AreRowsFor, HasDenies, IsList, IsPoint, IsStop, judging}
 use Rattle.mq_findings.specs.Questions.{ranked_marks}
@@ -109,35 +109,35 @@ judges_of rules rows others c direction all judges a is denies = record {
         ∙ (λ i. of_rank 1 i ++ (rows_both (ranked_marks rules direction 2 all) _
         ∙ (λ i. of_rank 2 i ++ of_rank 3 i)) i)) i)
 
--- ---- what was told stays told
-pub tells_kept : (lists : Lists) (c : Clients) (way : Way) (direction : Direction)
+-- ---- what was shown stays shown
+pub shows_kept : (lists : Lists) (c : Clients) (way : Way) (direction : Direction)
     (before after : List Difference)
     → Grows lists.old.now lists.new.now lists.asked before after
-    → TellsIn lists c way direction before → TellsIn lists c way direction after
-tells_kept lists c way direction before after g t client topic user p e =
-    g.kept (is_told_of lists.asked.rules lists.old.now lists.new.now way direction client user topic)
+    → ShowsChangesIn lists c way direction before → ShowsChangesIn lists c way direction after
+shows_kept lists c way direction before after g t client topic user p e =
+    g.kept (is_shown_of lists.asked.rules lists.old.now lists.new.now way direction client user topic)
     (t client topic user p e)
 
 user_kept : (lists : Lists) (user : Option (List ℕ)) (before after : List Difference)
     → Grows lists.old.now lists.new.now lists.asked before after
-    → TellsUser lists user before → TellsUser lists user after
+    → ShowsChangesOf lists user before → ShowsChangesOf lists user after
 user_kept lists user before after g t way direction client topic c u a v e =
-    g.kept (is_told_of lists.asked.rules lists.old.now lists.new.now way direction client user topic)
+    g.kept (is_shown_of lists.asked.rules lists.old.now lists.new.now way direction client user topic)
     (t way direction client topic c u a v e)
 
 -- both ways, and both directions
-pub tells_ways : (lists : Lists) (c : Clients) (direction : Direction) (told : List Difference)
-    → TellsIn lists c Gained direction told → TellsIn lists c Lost direction told
-    → (way : Way) → TellsIn lists c way direction told
-tells_ways lists c direction told g l Gained = g
-tells_ways lists c direction told g l Lost = l
+pub shows_ways : (lists : Lists) (c : Clients) (direction : Direction) (shown : List Difference)
+    → ShowsChangesIn lists c Gained direction shown → ShowsChangesIn lists c Lost direction shown
+    → (way : Way) → ShowsChangesIn lists c way direction shown
+shows_ways lists c direction shown g l Gained = g
+shows_ways lists c direction shown g l Lost = l
 
-pub tells_directions : (lists : Lists) (c : Clients) (told : List Difference)
-    → ((way : Way) → TellsIn lists c way Reading told)
-    → ((way : Way) → TellsIn lists c way Writing told)
-    → (way : Way) (direction : Direction) → TellsIn lists c way direction told
-tells_directions lists c told r w way Reading = r way
-tells_directions lists c told r w way Writing = w way
+pub shows_directions : (lists : Lists) (c : Clients) (shown : List Difference)
+    → ((way : Way) → ShowsChangesIn lists c way Reading shown)
+    → ((way : Way) → ShowsChangesIn lists c way Writing shown)
+    → (way : Way) (direction : Direction) → ShowsChangesIn lists c way direction shown
+shows_directions lists c shown r w way Reading = r way
+shows_directions lists c shown r w way Writing = w way
 
 -- ---- whom they are compared for
 -- a client that they are compared for is one that questions are about
@@ -156,12 +156,12 @@ point lists client user topic is c u a v = record {
 }
 
 -- ---- the clients of each user name
--- all is told of the clients of the first names
+-- all is shown of the clients of the first names
 pub record AreUsersDone (lists : Lists) (names : List (Bor (List ℕ))) (n : ℕ)
-    (first told : List Difference) : Type 0 where
-  pub grows : Grows lists.old.now lists.new.now lists.asked first told
+    (first shown : List Difference) : Type 0 where
+  pub grows : Grows lists.old.now lists.new.now lists.asked first shown
   pub users : (place : ℕ) (d : Bor (List ℕ)) → place < n → place < length names
-      → TellsUser lists (Some (get_or names place d).now) told
+      → ShowsChangesOf lists (Some (get_or names place d).now) shown
 
 pub same_name : (names : List (Bor (List ℕ))) (k : ℕ) (a b : Bor (List ℕ)) → k < length names
     → get_or names k a ≡ get_or names k b
@@ -169,37 +169,38 @@ same_name [] k a b h = absurd (omega arith)
 same_name (r ∷ rs) zero a b h = refl
 same_name (r ∷ rs) (suc k) a b h = same_name rs k a b (omega arith)
 
--- what is told of the clients of a user name is told of each with that name
-pub tells_user : (lists : Lists) (name : Bor (List ℕ)) (told : List Difference)
+-- what is shown of the clients of a user name is shown of each with that name
+pub shows_user : (lists : Lists) (name : Bor (List ℕ)) (shown : List Difference)
     → lists.asked.rows ≡ row_views lists.old.now ++ row_views lists.new.now
     → ((way : Way) (direction : Direction)
-    → TellsIn lists (clients.Named name) way direction told)
-    → TellsUser lists (Some name.now) told
-tells_user lists name told is t way direction client topic c u a v e =
+    → ShowsChangesIn lists (clients.Named name) way direction shown)
+    → ShowsChangesOf lists (Some name.now) shown
+shows_user lists name shown is t way direction client topic c u a v e =
     t way direction client topic (Some name.now)
     (point lists client (Some name.now) topic is c (rw (text_itself name.now, u) refl) a v) e
 
 pub users_one : (lists : Lists) (names : List (Bor (List ℕ))) (n : ℕ) (name : Bor (List ℕ))
-    (first told more : List Difference) → n < length names → name ≡ get_or names n name
-    → Grows lists.old.now lists.new.now lists.asked told more
-    → TellsUser lists (Some name.now) more → AreUsersDone lists names n first told
+    (first shown more : List Difference) → n < length names → name ≡ get_or names n name
+    → Grows lists.old.now lists.new.now lists.asked shown more
+    → ShowsChangesOf lists (Some name.now) more → AreUsersDone lists names n first shown
     → AreUsersDone lists names (n + 1) first more
-users_one lists names n name first told more low is g here s = record {
-  grows = grows_both lists.old.now lists.new.now lists.asked first told more s.grows g;
+users_one lists names n name first shown more low is g here s = record {
+  grows = grows_both lists.old.now lists.new.now lists.asked first shown more s.grows g;
   users = λ place d below in_range. at place d below in_range (ltb place n) refl;
 }
   where
     at : (place : ℕ) (d : Bor (List ℕ)) → place < n + 1 → place < length names
         → (b : Bool) → ltb place n ≡ b
-        → TellsUser lists (Some (get_or names place d).now) more
+        → ShowsChangesOf lists (Some (get_or names place d).now) more
     at place d below in_range true e =
-        user_kept lists (Some (get_or names place d).now) told more g
+        user_kept lists (Some (get_or names place d).now) shown more g
         (s.users place d (ltb-true place n e) in_range)
     at place d below in_range false e =
         let above = ltb-false place n e in
         let same : n ≡ place = omega arith in
-        subst (λ k. TellsUser lists (Some (get_or names k d).now) more) same
-        (subst (λ m. TellsUser lists (Some m.now) more) (is ∙ same_name names n name d low) here)
+        subst (λ k. ShowsChangesOf lists (Some (get_or names k d).now) more) same
+        (subst (λ m. ShowsChangesOf lists (Some m.now) more)
+        (is ∙ same_name names n name d low) here)
 
 -- a name of the list is one that a row names
 pub name_listed : (asked : AskedRows) (names : List (Bor (List ℕ))) (n : ℕ) (name : Bor (List ℕ))
@@ -213,85 +214,89 @@ name_listed asked names n name low is all =
 
 -- all that a row names are among them
 pub users_all : (lists : Lists) (names : List (Bor (List ℕ))) (n : ℕ)
-    (first told : List Difference) → length names ≤ n
+    (first shown : List Difference) → length names ≤ n
     → ((user : List ℕ) → is_among user names ≡ is_user_of user lists.asked.rows)
-    → AreUsersDone lists names n first told
-    → (user : List ℕ) → is_user_of user lists.asked.rows ≡ true → TellsUser lists (Some user) told
-users_all lists names n first told end all s user listed =
+    → AreUsersDone lists names n first shown
+    → (user : List ℕ) → is_user_of user lists.asked.rows ≡ true
+    → ShowsChangesOf lists (Some user) shown
+users_all lists names n first shown end all s user listed =
     let at = first_place (λ (other : Bor (List ℕ)). bytes_eq user other.now) names
     (all user ∙ listed) in
     let low = at.in_range in
-    subst (λ t. TellsUser lists (Some t) told)
+    subst (λ t. ShowsChangesOf lists (Some t) shown)
     (sym (text_is user (get_or names at.place at.item).now (at.here at.item)))
     (s.users at.place at.item (omega arith) low)
 
 -- ---- all clients
-pub tells_all_clients : (lists : Lists) (anonymous users told : List Difference)
+pub shows_all_clients : (lists : Lists) (anonymous users shown : List Difference)
     → lists.asked.rows ≡ row_views lists.old.now ++ row_views lists.new.now
     → Grows lists.old.now lists.new.now lists.asked anonymous users
-    → Grows lists.old.now lists.new.now lists.asked users told
+    → Grows lists.old.now lists.new.now lists.asked users shown
     → ((way : Way) (direction : Direction)
-    → TellsIn lists clients.Anonymous way direction anonymous)
+    → ShowsChangesIn lists clients.Anonymous way direction anonymous)
     → ((user : List ℕ) → is_user_of user lists.asked.rows ≡ true
-    → TellsUser lists (Some user) users)
-    → ((way : Way) (direction : Direction) → TellsIn lists clients.Others way direction told)
-    → TellsAll lists.asked.rules lists.old.now lists.new.now told
-tells_all_clients lists anonymous users told is g h n u o way direction client topic None c f a v e =
-    let p = is_told_of lists.asked.rules lists.old.now lists.new.now way direction client None topic
+    → ShowsChangesOf lists (Some user) users)
+    → ((way : Way) (direction : Direction)
+    → ShowsChangesIn lists clients.Others way direction shown)
+    → ShowsAll lists.asked.rules lists.old.now lists.new.now shown
+shows_all_clients lists anonymous users shown is g h n u o way direction client topic None c f a v e =
+    let p = is_shown_of lists.asked.rules lists.old.now lists.new.now way direction client None
+    topic
     in
     h.kept p (g.kept p (n way direction client topic None
     (point lists client None topic is c refl a v) e))
-tells_all_clients lists anonymous users told is g h n u o way direction client topic (Some name) c f
+shows_all_clients lists anonymous users shown is g h n u o way direction client topic
+    (Some name) c f
     a v e =
     at (is_user_of name lists.asked.rows) refl
   where
     at : (b : Bool) → is_user_of name lists.asked.rows ≡ b
-        → list_any (is_told_of lists.asked.rules lists.old.now lists.new.now way direction client
-        (Some name) topic) told ≡ true
+        → list_any (is_shown_of lists.asked.rules lists.old.now lists.new.now way direction client
+        (Some name) topic) shown ≡ true
     at true k =
-        h.kept (is_told_of lists.asked.rules lists.old.now lists.new.now way direction client
+        h.kept (is_shown_of lists.asked.rules lists.old.now lists.new.now way direction client
         (Some name) topic) (u name k way direction client topic c f a v e)
     at false k =
         o way direction client topic (Some name)
         (point lists client (Some name) topic is c (rw (f, k) refl) a v) e
 
 -- ---- the answer
-pub report_none : (old new : List Row) (asked : AskedRows) (told : List Difference) → told ≡ []
-    → IsReport old new asked told
-report_none old new asked told e =
+pub report_none : (old new : List Row) (asked : AskedRows) (shown : List Difference) → shown ≡ []
+    → IsReport old new asked shown
+report_none old new asked shown e =
     subst (IsReport old new asked) (sym e)
     (record {
       sound = All-nil (IsSound old new asked);
       apart = λ i j d low in_range. absurd (omega arith);
     })
 
-pub report_marked : (old new : List Row) (asked : AskedRows) (told : List Difference)
-    → asked.rows ≡ row_views old ++ row_views new → IsReport old new asked told
-    → AreMarked asked.rules old new told
-report_marked old new asked told is r = record {
+pub report_marked : (old new : List Row) (asked : AskedRows) (shown : List Difference)
+    → asked.rows ≡ row_views old ++ row_views new → IsReport old new asked shown
+    → AreMarked asked.rules old new shown
+report_marked old new asked shown is r = record {
   asked = asked;
   rows = is;
-  marked = All-weaker (IsSound old new asked) (IsMarked asked) (λ d s. s.marked) told r.sound;
-  unnamed = All-weaker (IsSound old new asked) (AreUnnamed asked) (λ d s. s.unnamed) told r.sound;
-  known = All-weaker (IsSound old new asked) (IsKnown asked) (λ d s. s.known) told r.sound;
-  stands = All-weaker (IsSound old new asked) (ShowsOthers asked.rules old new asked) (λ d s. s.stands) told
+  marked = All-weaker (IsSound old new asked) (IsMarked asked) (λ d s. s.marked) shown r.sound;
+  unnamed = All-weaker (IsSound old new asked) (AreUnnamed asked) (λ d s. s.unnamed) shown r.sound;
+  known = All-weaker (IsSound old new asked) (IsKnown asked) (λ d s. s.known) shown r.sound;
+  stands = All-weaker (IsSound old new asked) (ShowsOthers asked.rules old new asked) (λ d s. s.stands) shown
       r.sound;
 }
 
-pub report_real : (old new : List Row) (asked : AskedRows) (told : List Difference)
-    → IsReport old new asked told → All (IsReal asked.rules old new) told
-report_real old new asked told r =
-    All-weaker (IsSound old new asked) (IsReal asked.rules old new) (λ d s. s.real) told r.sound
+pub report_real : (old new : List Row) (asked : AskedRows) (shown : List Difference)
+    → IsReport old new asked shown → All (IsReal asked.rules old new) shown
+report_real old new asked shown r =
+    All-weaker (IsSound old new asked) (IsReal asked.rules old new) (λ d s. s.real) shown r.sound
 
--- where nothing is told, nothing changed
-pub same_allowed : (rules : Rules) (old new : List Row) (told : List Difference)
-    → TellsAll rules old new told → told ≡ [] → (client topic : List ℕ) (user : Option (List ℕ))
+-- where nothing is shown, nothing changed
+pub same_allowed : (rules : Rules) (old new : List Row) (shown : List Difference)
+    → ShowsAll rules old new shown → shown ≡ [] → (client topic : List ℕ) (user : Option (List ℕ))
     (direction : Direction) → can_be_id client ≡ true → can_be_user user ≡ true
     → is_compared rules old new client user ≡ true → is_name topic ≡ true
     → allow_by rules (row_views old) client user topic direction
     ≡ allow_by rules (row_views new) client user topic direction
-same_allowed rules old new told t e client topic user direction c f a v =
-    let none = subst (TellsAll rules old new) e t in
+same_allowed rules old new shown t e client topic user direction c f a v =
+    let none = subst (ShowsAll rules old new) e t in
     at (allow_by rules (row_views old) client user topic direction)
     (allow_by rules (row_views new) client user topic direction)
     (none Gained direction client topic user c f a v)
@@ -321,9 +326,10 @@ stop_fault rules lists old new steps o n l (comparison.GaveUp New line others) s
 
 -- what is so of the lists that are asked is so of those that are given
 pub carried : (P : Rules → (old new : List Row) → List Difference → Type 0) → {r s : Rules}
-    → {old old2 new new2 : List Row} → {told told2 : List Difference} → r ≡ s → old ≡ old2
-    → new ≡ new2 → told2 ≡ told → P r old new told → P s old2 new2 told2
-carried P {s = s} {old = old} {old2 = old2} {new = new} {new2 = new2} {told = told} er eo en et x =
+    → {old old2 new new2 : List Row} → {shown told2 : List Difference} → r ≡ s → old ≡ old2
+    → new ≡ new2 → told2 ≡ shown → P r old new shown → P s old2 new2 told2
+carried P {s = s} {old = old} {old2 = old2} {new = new} {new2 = new2} {shown = shown} er eo en et
+    x =
     subst (λ t. P s old2 new2 t) (sym et)
-    (subst (λ n. P s old2 n told) en
-    (subst (λ o. P s o new told) eo (subst (λ r. P r old new told) er x)))
+    (subst (λ n. P s old2 n shown) en
+    (subst (λ o. P s o new shown) eo (subst (λ r. P r old new shown) er x)))

@@ -122,7 +122,7 @@ gain_asks q gain k g =
           gain.grant.now g.grant to)),
     )
 
--- ---- the line that is told
+-- ---- the line that is shown
 pub line_contained : (q : Question) (before : List Marked) (row : Row) → IsQuestion q
     → IsSplit q.to.now.rows.items before row
     → Contains (line_views (rows_with q.way q.lists.now.old.now q.lists.now.new.now)) row.line

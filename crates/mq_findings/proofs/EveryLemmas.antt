@@ -1,4 +1,4 @@
--- All that is gained is told.
+-- All that is gained is shown.
 use Rattle.std.proofs.Common.{◌≡◌, ◌<◌, ◌≤◌, ℕ, ◌==◌, Bool, true, false, not, ◌&&◌, ◌||◌, List, []}
 use Rattle.std.proofs.Common.{◌∷◌, ◌++◌, Option, Some, None, length, take, get_or}
 use Rattle.std.proofs.Common.{refl, ap, sym, ◌∙◌, arith, cond}
@@ -19,9 +19,9 @@ use Rattle.mq_acl.specs.declared.rules.Rules.TheVariants.{Own, Mosquitto}
 use Rattle.mq_witness.specs.Ruled.{FindsNoneBy, decides_by}
 use Rattle.mq_findings.specs.Differences.{is_change, is_gained}
 use Rattle.mq_findings.specs.Marks.{rows_of, views_of}
-use Rattle.mq_findings.specs.Questions.{AreJudges, AreTold, AreToldBy, AreToldOf, IsPlaced}
-use Rattle.mq_findings.specs.Questions.{IsQuestion, NeverMeet, TellsChanges, asked_in}
-use Rattle.mq_findings.specs.Questions.{denied_cover, denied_must, granted_cover, is_told, must_of}
+use Rattle.mq_findings.specs.Questions.{AreJudges, AreShown, AreShownBy, AreShownOf, IsPlaced}
+use Rattle.mq_findings.specs.Questions.{IsQuestion, NeverMeet, ShowsChanges, asked_in}
+use Rattle.mq_findings.specs.Questions.{denied_cover, denied_must, granted_cover, is_shown, must_of}
 use Rattle.mq_findings.specs.Questions.{rows_with, rows_without, rules_in}
 use Rattle.mq_findings.specs.Ranks.{is_judge, judges, rank, rank_of, ranked}
 use Rattle.mq_findings.specs.Reasons.{decider, is_grant, reason_by}
@@ -129,13 +129,13 @@ is_found p (y ∷ xs) x h = at (p y) (is_found p xs x) h
     at true f h = refl
     at false f h = f h
 
--- with all told that each row grants, all that is gained is told
-pub tells_all : (q : Question) (told : List Difference) → IsQuestion q
+-- with all shown that each row grants, all that is gained is shown
+pub shows_all : (q : Question) (shown : List Difference) → IsQuestion q
     → ((place : ℕ) (d : Marked) → place < length q.to.now.rows.items
     → is_deny (row_view (get_or q.to.now.rows.items place d).row.now).access ≡ false
-    → AreToldBy q (take place q.to.now.rows.items) (get_or q.to.now.rows.items place d) told)
-    → TellsChanges q told
-tells_all q told k each client topic user p change =
+    → AreShownBy q (take place q.to.now.rows.items) (get_or q.to.now.rows.items place d) shown)
+    → ShowsChanges q shown
+shows_all q shown k each client topic user p change =
     let rules = rules_in q in
     let c = concerns_by rules client user topic in
     let for = question_for q client user topic k p in
@@ -156,13 +156,13 @@ tells_all q told k each client topic user p change =
     let first = first_mark c to some in
     let grant = get_or to first.place first.item in
     let same : grants.0 ≡ grant.row.now = some_same (sym grants.1 ∙ to_is ∙ found_mark c to first) in
-    let told_by = each first.place first.item first.in_range
+    let shown_by = each first.place first.item first.in_range
     (ap (λ (r : Row). is_deny (row_view r).access) (sym same) ∙ grants.2) in
     let refuses = sym (allowed_is rules (from_rows q) client user topic q.direction)
     ∙ not_false (allow_by rules (row_views (from_rows q)) client user topic q.direction) parts.1 in
     at (list_any c (views_of from)) refl
     (λ any. let denier = first_mark c from any in
-    told_by.denied denier.place denier.item denier.in_range
+    shown_by.denied denier.place denier.item denier.in_range
     (refusing (get_or from denier.place denier.item).row.now
     (ap (λ o. is_grant (reason_by o)) (sym (from_is ∙ found_mark c from denier)) ∙ refuses))
     client topic user p
@@ -171,7 +171,7 @@ tells_all q told k each client topic user p change =
     (rw (denier.here denier.item, first.here first.item) refl)
     (none_in c (views_of (take denier.place from)) (views_of (take first.place to))
     (before_mark c from denier) (before_mark c to first))))
-    (λ none. told_by.granted client topic user p
+    (λ none. shown_by.granted client topic user p
     (decided_by (list_all c (must_of None (row_view grant.row.now)))
     (list_any c (granted_cover q (take first.place to))) (rw (first.here first.item) refl)
     (none_in c (views_of from) (views_of (take first.place to)) none (before_mark c to first))))
@@ -345,13 +345,13 @@ passes_over rules deny grant =
 
 -- a row that denied isn't the first to decide, where it or the one that grants is in the other list too, and would decide
 -- there before the other one
-pub kept_denied : (q : Question) (told : List Difference) (place : ℕ) (d : Marked)
+pub kept_denied : (q : Question) (shown : List Difference) (place : ℕ) (d : Marked)
     (before : List Marked) (grant : Marked) → IsQuestion q → IsPlaced q before grant
     → place < length q.from.now.rows.items
     → is_deny (row_view (get_or q.from.now.rows.items place d).row.now).access ≡ true
     → passes_over (rules_in q) (get_or q.from.now.rows.items place d) grant ≡ true
-    → AreTold q (denied_must q place d grant) (denied_cover q place before) told
-kept_denied q told place d before grant k s low denies over client topic user p e =
+    → AreShown q (denied_must q place d grant) (denied_cover q place before) shown
+kept_denied q shown place d before grant k s low denies over client topic user p e =
     let rules = rules_in q in
     let c = concerns_by rules client user topic in
     let from = q.from.now.rows.items in
@@ -408,10 +408,10 @@ kept_denied q told place d before grant k s low denies over client topic user p 
     either false b false e f g h = let q : false ≡ true = h in cc
 
 -- what a row grants that is in the first list too, that grants as well
-pub kept_granted : (q : Question) (told : List Difference) (before : List Marked)
+pub kept_granted : (q : Question) (shown : List Difference) (before : List Marked)
     (grant : Marked) → IsQuestion q → IsPlaced q before grant → grant.kept ≡ true
-    → AreTold q (must_of None (row_view grant.row.now)) (granted_cover q before) told
-kept_granted q told before grant k s kept client topic user p e =
+    → AreShown q (must_of None (row_view grant.row.now)) (granted_cover q before) shown
+kept_granted q shown before grant k s kept client topic user p e =
     let rules = rules_in q in
     let c = concerns_by rules client user topic in
     let from = q.from.now.rows.items in
@@ -439,24 +439,24 @@ met_by : (a b : Bool) → (a && not b) ≡ true → (a && true) ≡ true
 met_by true b e = refl
 met_by false b e = e
 
--- where the rows that are to concern a topic never do, there is nothing to tell
-pub never_told : (q : Question) (must cover : List AclRow) (told : List Difference)
-    → NeverMeet q must → AreTold q must cover told
-never_told q must cover told never client topic user p e =
+-- where the rows that are to concern a topic never do, there is nothing to show
+pub never_shown : (q : Question) (must cover : List AclRow) (shown : List Difference)
+    → NeverMeet q must → AreShown q must cover shown
+never_shown q must cover shown never client topic user p e =
     apart (decides_by (rules_in q) client user topic must [])
     (met_by (list_all (concerns_by (rules_in q) client user topic) must)
     (list_any (concerns_by (rules_in q) client user topic) cover) e)
     (never client topic user p)
 
 -- ---- topics of both kinds
--- what is told of topics that begin with `$`, and of the others, is told of all
-pub told_of_both : (q : Question) (must cover : List AclRow) (told : List Difference)
-    → AreToldOf false q must cover told → AreToldOf true q must cover told
-    → AreTold q must cover told
-told_of_both q must cover told plain dollar client topic user p e = at (begins_with_dollar topic) refl
+-- what is shown of topics that begin with `$`, and of the others, is shown of all
+pub shown_of_both : (q : Question) (must cover : List AclRow) (shown : List Difference)
+    → AreShownOf false q must cover shown → AreShownOf true q must cover shown
+    → AreShown q must cover shown
+shown_of_both q must cover shown plain dollar client topic user p e = at (begins_with_dollar topic) refl
   where
     at : (b : Bool) → begins_with_dollar topic ≡ b
-        → list_any (is_told q client user topic) told ≡ true
+        → list_any (is_shown q client user topic) shown ≡ true
     at true k = dollar client topic user p k e
     at false k = plain client topic user p k e
 
@@ -471,10 +471,10 @@ meet_in_neither q must plain dollar client topic user p = at (begins_with_dollar
     at true k = dollar client topic user p.is_asked p.valid k
     at false k = plain client topic user p.is_asked p.valid k
 
--- what no topic of a kind is found for is told
+-- what no topic of a kind is found for is shown
 pub none_of_kind : (q : Question) (dollar : Bool) (must cover : List AclRow)
-    (told : List Difference) → FindsNoneBy dollar (asked_in q) q.clients must cover
-    → AreToldOf dollar q must cover told
-none_of_kind q dollar must cover told none client topic user p kind e =
+    (shown : List Difference) → FindsNoneBy dollar (asked_in q) q.clients must cover
+    → AreShownOf dollar q must cover shown
+none_of_kind q dollar must cover shown none client topic user p kind e =
     apart (decides_by (rules_in q) client user topic must cover) e
     (none client topic user p.is_asked p.valid kind)

@@ -1,4 +1,4 @@
--- Differences that are told class by class.
+-- Differences that are shown class by class.
 use Rattle.std.proofs.Common.{◌≡◌, ◌<◌, ◌≤◌, ℕ, Bool, true, false, ◌||◌, List, [], ◌∷◌, ◌++◌}
 use Rattle.std.proofs.Common.{All, refl, ap, sym, ◌∙◌, subst, arith, length, get_or, take, drop}
 use Rattle.std.proofs.Common.{string_bytes, length-append}
@@ -72,29 +72,29 @@ not_greater Greater n = absurd (n refl)
 unlike : (d e : Difference) → same_class d.class e.class ≡ false → is_like d e ≡ false
 unlike d e h = rw h refl
 
-none_like : (told : List Difference) (d : Difference)
-    → All (λ e. same_class e.class d.class ≡ false) told
-    → list_any (λ e. is_like e d) told ≡ false
-none_like told d h =
-    list_any_none (λ e. is_like e d) told (λ k x low. unlike (get_or told k x) d (h k x low))
+none_like : (shown : List Difference) (d : Difference)
+    → All (λ e. same_class e.class d.class ≡ false) shown
+    → list_any (λ e. is_like e d) shown ≡ false
+none_like shown d h =
+    list_any_none (λ e. is_like e d) shown (λ k x low. unlike (get_or shown k x) d (h k x low))
 
-pub like_behind : (told : List Difference) (last : ℕ) (first d : Difference) → IsLast told last
-    → first ≡ get_or told last first → class_order d.class first.class ≡ Equal
-    → list_any (λ e. is_like e d) (drop last told) ≡ list_any (λ e. is_like e d) told
-like_behind told last first d s is o =
-    sym (ap (list_any (λ e. is_like e d)) (sym (take-append-drop last told))
-    ∙ list_any-append (λ e. is_like e d) (take last told) (drop last told)
-    ∙ ap (λ b. b || list_any (λ e. is_like e d) (drop last told)) (none_like (take last told) d
-    (λ k x low. apart (get_or (take last told) k x).class d.class first.class is_eq
-    (ap is_eq (subst (λ f. class_order (get_or (take last told) k x).class f.class ≡ Less) (sym is)
+pub like_behind : (shown : List Difference) (last : ℕ) (first d : Difference) → IsLast shown last
+    → first ≡ get_or shown last first → class_order d.class first.class ≡ Equal
+    → list_any (λ e. is_like e d) (drop last shown) ≡ list_any (λ e. is_like e d) shown
+like_behind shown last first d s is o =
+    sym (ap (list_any (λ e. is_like e d)) (sym (take-append-drop last shown))
+    ∙ list_any-append (λ e. is_like e d) (take last shown) (drop last shown)
+    ∙ ap (λ b. b || list_any (λ e. is_like e d) (drop last shown)) (none_like (take last shown) d
+    (λ k x low. apart (get_or (take last shown) k x).class d.class first.class is_eq
+    (ap is_eq (subst (λ f. class_order (get_or (take last shown) k x).class f.class ≡ Less) (sym is)
     (s.before first k x low))) (ap is_eq o))))
 
-pub like_none : (told : List Difference) (last : ℕ) (first d : Difference) → IsLast told last
-    → first ≡ get_or told last first → class_order d.class first.class ≡ Greater
-    → list_any (λ e. is_like e d) told ≡ false
-like_none told last first d s is o =
-    none_like told d (λ k x low. apart (get_or told k x).class d.class first.class is_gt
-    (subst (λ f. is_gt (class_order (get_or told k x).class f.class) ≡ false) (sym is)
+pub like_none : (shown : List Difference) (last : ℕ) (first d : Difference) → IsLast shown last
+    → first ≡ get_or shown last first → class_order d.class first.class ≡ Greater
+    → list_any (λ e. is_like e d) shown ≡ false
+like_none shown last first d s is o =
+    none_like shown d (λ k x low. apart (get_or shown k x).class d.class first.class is_gt
+    (subst (λ f. is_gt (class_order (get_or shown k x).class f.class) ≡ false) (sym is)
     (s.none_behind first k x low)) (ap is_gt o))
 
 -- ---- one more
@@ -102,52 +102,53 @@ itself : (d : Difference) → is_gt (class_order d.class d.class) ≡ false
 itself d = ap is_gt (tied_itself class_total d.class)
 
 -- it is of the same class, or of one before it
-pub last_kept : (told : List Difference) (last : ℕ) (first d : Difference) → IsLast told last
-    → last < length told → first ≡ get_or told last first
-    → is_gt (class_order d.class first.class) ≡ false → IsLast (told ++ d ∷ []) last
-last_kept told last first d s low is o = record {
-  within = let n = length-append told (d ∷ []) in omega arith;
-  before = λ x. subst (All (λ e. class_order e.class (get_or (told ++ d ∷ []) last x).class ≡ Less))
-      (sym (take-append-le last told (d ∷ []) (omega arith)))
-      (subst (λ f. All (λ e. class_order e.class f.class ≡ Less) (take last told)) (sym (same x))
+pub last_kept : (shown : List Difference) (last : ℕ) (first d : Difference) → IsLast shown last
+    → last < length shown → first ≡ get_or shown last first
+    → is_gt (class_order d.class first.class) ≡ false → IsLast (shown ++ d ∷ []) last
+last_kept shown last first d s low is o = record {
+  within = let n = length-append shown (d ∷ []) in omega arith;
+  before = λ x. subst (All (λ e. class_order e.class (get_or (shown ++ d ∷ []) last x).class
+      ≡ Less))
+      (sym (take-append-le last shown (d ∷ []) (omega arith)))
+      (subst (λ f. All (λ e. class_order e.class f.class ≡ Less) (take last shown)) (sym (same x))
       (s.before first));
   none_behind = λ x. subst
-      (λ f. All (λ e. is_gt (class_order e.class f.class) ≡ false) (told ++ d ∷ [])) (sym (same x))
-      (All-push (λ e. is_gt (class_order e.class (get_or told last first).class) ≡ false) told d
+      (λ f. All (λ e. is_gt (class_order e.class f.class) ≡ false) (shown ++ d ∷ [])) (sym (same x))
+      (All-push (λ e. is_gt (class_order e.class (get_or shown last first).class) ≡ false) shown d
       (s.none_behind first)
       (subst (λ f. is_gt (class_order d.class f.class) ≡ false) is o));
 }
   where
-    same : (x : Difference) → get_or (told ++ d ∷ []) last x ≡ get_or told last first
-    same x = get_or-append told (d ∷ []) x last low ∙ get_or_default told last x first low
+    same : (x : Difference) → get_or (shown ++ d ∷ []) last x ≡ get_or shown last first
+    same x = get_or-append shown (d ∷ []) x last low ∙ get_or_default shown last x first low
 
 -- it is of one behind that
-pub last_moved : (told : List Difference) (last : ℕ) (first d : Difference) → IsLast told last
-    → first ≡ get_or told last first → class_order d.class first.class ≡ Greater
-    → IsLast (told ++ d ∷ []) (length told)
-last_moved told last first d s is o = record {
-  within = let n = length-append told (d ∷ []) in omega arith;
+pub last_moved : (shown : List Difference) (last : ℕ) (first d : Difference) → IsLast shown last
+    → first ≡ get_or shown last first → class_order d.class first.class ≡ Greater
+    → IsLast (shown ++ d ∷ []) (length shown)
+last_moved shown last first d s is o = record {
+  within = let n = length-append shown (d ∷ []) in omega arith;
   before = λ x. subst
-      (All (λ e. class_order e.class (get_or (told ++ d ∷ []) (length told) x).class ≡ Less))
-      (sym (take-append_seam told (d ∷ [])))
-      (subst (λ f. All (λ e. class_order e.class f.class ≡ Less) told) (sym (same x)) all);
+      (All (λ e. class_order e.class (get_or (shown ++ d ∷ []) (length shown) x).class ≡ Less))
+      (sym (take-append_seam shown (d ∷ [])))
+      (subst (λ f. All (λ e. class_order e.class f.class ≡ Less) shown) (sym (same x)) all);
   none_behind = λ x. subst
-      (λ f. All (λ e. is_gt (class_order e.class f.class) ≡ false) (told ++ d ∷ [])) (sym (same x))
-      (All-push (λ e. is_gt (class_order e.class d.class) ≡ false) told d
+      (λ f. All (λ e. is_gt (class_order e.class f.class) ≡ false) (shown ++ d ∷ [])) (sym (same x))
+      (All-push (λ e. is_gt (class_order e.class d.class) ≡ false) shown d
       (λ k y low. ap is_gt (all k y low)) (itself d));
 }
   where
-    same : (x : Difference) → get_or (told ++ d ∷ []) (length told) x ≡ d
-    same x = get_or-append_seam told d [] x
+    same : (x : Difference) → get_or (shown ++ d ∷ []) (length shown) x ≡ d
+    same x = get_or-append_seam shown d [] x
 
-    all : All (λ e. class_order e.class d.class ≡ Less) told
-    all = λ k y low. below (get_or told k y).class first.class d.class
-        (subst (λ f. is_gt (class_order (get_or told k y).class f.class) ≡ false) (sym is)
+    all : All (λ e. class_order e.class d.class ≡ Less) shown
+    all = λ k y low. below (get_or shown k y).class first.class d.class
+        (subst (λ f. is_gt (class_order (get_or shown k y).class f.class) ≡ false) (sym is)
         (s.none_behind first k y low)) o
 
 -- it is the first
-pub last_begun : (told : List Difference) (last : ℕ) (d : Difference) → IsLast told last
-    → length told ≤ last → IsLast (told ++ d ∷ []) last
+pub last_begun : (shown : List Difference) (last : ℕ) (d : Difference) → IsLast shown last
+    → length shown ≤ last → IsLast (shown ++ d ∷ []) last
 last_begun [] last d s end = subst (IsLast (d ∷ [])) zero (record {
   within = omega arith;
   before = λ x. All-nil (λ e. class_order e.class d.class ≡ Less);
@@ -157,4 +158,4 @@ last_begun [] last d s end = subst (IsLast (d ∷ [])) zero (record {
   where
     zero : 0 ≡ last
     zero = let low = s.within in omega arith
-last_begun (e ∷ told) last d s end = absurd (let low = s.within in omega arith)
+last_begun (e ∷ shown) last d s end = absurd (let low = s.within in omega arith)

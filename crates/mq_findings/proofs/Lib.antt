@@ -13,6 +13,6 @@ pub mod OrderLemmas
 pub mod PointLemmas
 pub mod JudgeLemmas
 pub mod ReportLemmas
-pub mod ToldLemmas
+pub mod ShownLemmas
 pub mod TwinLemmas
 pub mod DeciderLemmas

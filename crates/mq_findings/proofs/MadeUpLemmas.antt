@@ -54,8 +54,8 @@ text_there texts text other asked there =
     at false e false f = refl
 
 -- ---- the client id, the user name and the levels so far
-abbrev pub is_told : List ℕ → List ℕ → Option (List ℕ) → List (List ℕ) → Bool
-is_told text client user ls = bytes_eq text client || is_user text user || list_any (bytes_eq text) ls
+abbrev pub is_shown : List ℕ → List ℕ → Option (List ℕ) → List (List ℕ) → Bool
+is_shown text client user ls = bytes_eq text client || is_user text user || list_any (bytes_eq text) ls
 
 or_and : (a b c d : Bool) → ((a && d) || (b && d)) ≡ ((a || b) && d)
 or_and true true c true = refl
@@ -79,27 +79,27 @@ twice_and true false = refl
 twice_and false d = refl
 
 -- the client id and the user name
-pub told_first : (text client : List ℕ) (user : Option (Bor (List ℕ))) (name : Bor (List ℕ))
+pub shown_first : (text client : List ℕ) (user : Option (Bor (List ℕ))) (name : Bor (List ℕ))
     (client_ref : Bor (List ℕ)) (made : Bool) → name ≡ unwrap_or user client_ref
     → client_ref.now ≡ client
     → ((false || (bytes_eq text client && made)) || (bytes_eq text name.now && made))
-    ≡ (is_told text client (option_copied user) [] && made)
-told_first text client None name client_ref made e f =
+    ≡ (is_shown text client (option_copied user) [] && made)
+shown_first text client None name client_ref made e f =
     ap (λ t. (false || (bytes_eq text client && made)) || (bytes_eq text t && made))
     (ap (λ (r : Bor (List ℕ)). r.now) e ∙ f)
     ∙ twice_and (bytes_eq text client) made
-told_first text client (Some user) name client_ref made e f =
+shown_first text client (Some user) name client_ref made e f =
     ap (λ (r : Bor (List ℕ)). (false || (bytes_eq text client && made))
     || (bytes_eq text r.now && made)) e
     ∙ none_and (bytes_eq text client) (bytes_eq text user.now) false made
 
 -- one more level
-pub told_more : (text client level : List ℕ) (user : Option (List ℕ)) (ls : List (List ℕ)) (n : ℕ)
+pub shown_more : (text client level : List ℕ) (user : Option (List ℕ)) (ls : List (List ℕ)) (n : ℕ)
     (made : Bool) → n < length ls → level ≡ get_or ls n level
-    → ((is_told text client user (take n ls) && made) || (bytes_eq text level && made))
-    ≡ (is_told text client user (take (n + 1) ls) && made)
-told_more text client level user ls n made low is =
-    or_and (is_told text client user (take n ls)) (bytes_eq text level) false made
+    → ((is_shown text client user (take n ls) && made) || (bytes_eq text level && made))
+    ≡ (is_shown text client user (take (n + 1) ls) && made)
+shown_more text client level user ls n made low is =
+    or_and (is_shown text client user (take n ls)) (bytes_eq text level) false made
     ∙ ap (λ b. b && made)
     (or_assoc (bytes_eq text client || is_user text user) (list_any (bytes_eq text) (take n ls))
     (bytes_eq text level)

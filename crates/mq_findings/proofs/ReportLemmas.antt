@@ -1,4 +1,4 @@
--- Differences that are told.
+-- Differences that are shown.
 use Rattle.std.proofs.Common.{◌≡◌, ◌==◌, ◌<◌, ℕ, Bool, true, false, not, ◌&&◌, ◌||◌, List, []}
 use Rattle.std.proofs.Common.{◌∷◌, ◌++◌, Option, Some, None, refl, ap, sym, ◌∙◌, subst, arith}
 use Rattle.std.proofs.Common.{bytes_eq, string_bytes, length, get_or, take, ltb, ◌+◌, ◌≤◌, zero, suc}
@@ -18,10 +18,11 @@ use Rattle.mq_acl.specs.declared.row.Row.{Row}
 use Rattle.mq_acl.specs.declared.rules.Rules.{Rules}
 use Rattle.mq_witness.specs.Asked.{AskedRows}
 use Rattle.mq_findings.specs.Classes.{is_in, is_listed}
-use Rattle.mq_findings.specs.Differences.{is_like, is_told_of, same_class, same_direction}
+use Rattle.mq_findings.specs.Differences.{is_like, is_shown_of, same_class, same_direction}
 use Rattle.mq_findings.specs.Differences.{same_reason, same_reasons, same_start, same_way}
-use Rattle.mq_findings.specs.Questions.{AreTold, AreToldBy, AreToldOf, HasDenies, IsDeniedAt}
-use Rattle.mq_findings.specs.Questions.{asked_in, denied_cover, denied_must, granted_cover, is_told}
+use Rattle.mq_findings.specs.Questions.{AreShown, AreShownBy, AreShownOf, HasDenies, IsDeniedAt}
+use Rattle.mq_findings.specs.Questions.{asked_in, denied_cover}
+use Rattle.mq_findings.specs.Questions.{denied_must, granted_cover, is_shown}
 use Rattle.mq_findings.specs.Questions.{must_of}
 use Rattle.mq_findings.specs.Reasons.{reason_of}
 use Rattle.mq_findings.specs.Reports.{Grows, IsSound, added}
@@ -128,12 +129,12 @@ alike d e h =
       new_reason = reason_is d.new_reason e.new_reason reasons.1;
     }
 
--- what is told by a difference is told by one that is like it
-pub told_like : (rules : Rules) (old new : List Row) (way : Way) (direction : Direction) (client : List ℕ)
+-- what is shown by a difference is shown by one that is like it
+pub shown_like : (rules : Rules) (old new : List Row) (way : Way) (direction : Direction) (client : List ℕ)
     (user : Option (List ℕ)) (topic : List ℕ) (d e : Difference) → is_like d e ≡ true
-    → is_told_of rules old new way direction client user topic e ≡ true
-    → is_told_of rules old new way direction client user topic d ≡ true
-told_like rules old new way direction client user topic d e h t =
+    → is_shown_of rules old new way direction client user topic e ≡ true
+    → is_shown_of rules old new way direction client user topic d ≡ true
+shown_like rules old new way direction client user topic d e h t =
     let like = alike d e h in
     let four = and_parts (is_in (row_views old) (row_views new) user e.class
     && same_direction direction e.direction && same_way way e.way && same_start topic e.topic)
@@ -157,19 +158,19 @@ told_like rules old new way direction client user topic d e h t =
       ap (same_reason (reason_of rules new client user topic direction)) like.new_reason ∙ reasons.1,
     ) refl
 
--- so it is by one of those that are told
-pub told_there : (rules : Rules) (old new : List Row) (way : Way) (direction : Direction) (client : List ℕ)
-    (user : Option (List ℕ)) (topic : List ℕ) (d : Difference) (told : List Difference)
-    → list_any (λ e. is_like e d) told ≡ true
-    → is_told_of rules old new way direction client user topic d ≡ true
-    → list_any (is_told_of rules old new way direction client user topic) told ≡ true
-told_there rules old new way direction client user topic d [] h t = absurd (let k : false ≡ true = h in cc)
-told_there rules old new way direction client user topic d (e ∷ told) h t =
-    at (is_like e d) (list_any (λ e. is_like e d) told)
-    (is_told_of rules old new way direction client user topic e)
-    (list_any (is_told_of rules old new way direction client user topic) told) h
-    (λ k. told_like rules old new way direction client user topic e d k t)
-    (λ k. told_there rules old new way direction client user topic d told k t)
+-- so it is by one of those that are shown
+pub shown_there : (rules : Rules) (old new : List Row) (way : Way) (direction : Direction) (client : List ℕ)
+    (user : Option (List ℕ)) (topic : List ℕ) (d : Difference) (shown : List Difference)
+    → list_any (λ e. is_like e d) shown ≡ true
+    → is_shown_of rules old new way direction client user topic d ≡ true
+    → list_any (is_shown_of rules old new way direction client user topic) shown ≡ true
+shown_there rules old new way direction client user topic d [] h t = absurd (let k : false ≡ true = h in cc)
+shown_there rules old new way direction client user topic d (e ∷ shown) h t =
+    at (is_like e d) (list_any (λ e. is_like e d) shown)
+    (is_shown_of rules old new way direction client user topic e)
+    (list_any (is_shown_of rules old new way direction client user topic) shown) h
+    (λ k. shown_like rules old new way direction client user topic e d k t)
+    (λ k. shown_there rules old new way direction client user topic d shown k t)
   where
     at : (p q r s : Bool) → (p || q) ≡ true → (p ≡ true → r ≡ true) → (q ≡ true → s ≡ true)
         → (r || s) ≡ true
@@ -178,20 +179,20 @@ told_there rules old new way direction client user topic d (e ∷ told) h t =
     at false q false s h f g = g h
 
 -- ---- one more
-pub added_told : (rules : Rules) (old new : List Row) (way : Way) (direction : Direction) (client : List ℕ)
+pub added_shown : (rules : Rules) (old new : List Row) (way : Way) (direction : Direction) (client : List ℕ)
     (user : Option (List ℕ)) (topic : List ℕ) (d : Difference) (before after : List Difference)
-    → after ≡ added before d → is_told_of rules old new way direction client user topic d ≡ true
-    → list_any (is_told_of rules old new way direction client user topic) after ≡ true
-added_told rules old new way direction client user topic d before after e t =
+    → after ≡ added before d → is_shown_of rules old new way direction client user topic d ≡ true
+    → list_any (is_shown_of rules old new way direction client user topic) after ≡ true
+added_shown rules old new way direction client user topic d before after e t =
     at (list_any (λ e. is_like e d) before) refl e
   where
     at : (b : Bool) → list_any (λ e. is_like e d) before ≡ b
         → after ≡ (if b then before else before ++ d ∷ [])
-        → list_any (is_told_of rules old new way direction client user topic) after ≡ true
-    at true h f = ap (list_any (is_told_of rules old new way direction client user topic)) f
-        ∙ told_there rules old new way direction client user topic d before h t
+        → list_any (is_shown_of rules old new way direction client user topic) after ≡ true
+    at true h f = ap (list_any (is_shown_of rules old new way direction client user topic)) f
+        ∙ shown_there rules old new way direction client user topic d before h t
     at false h f =
-        any_last (is_told_of rules old new way direction client user topic) before after d f t
+        any_last (is_shown_of rules old new way direction client user topic) before after d f t
 
 pub added_grows : (old new : List Row) (asked : AskedRows) (d : Difference)
     (before after : List Difference) → after ≡ added before d → IsSound old new asked d
@@ -213,9 +214,9 @@ added_grows old new asked d before after e s =
     })
 
 -- ---- step by step
-pub grows_none : (old new : List Row) (asked : AskedRows) (told : List Difference)
-    → Grows old new asked told told
-grows_none old new asked told = record { report = λ r. r; kept = λ p k. k }
+pub grows_none : (old new : List Row) (asked : AskedRows) (shown : List Difference)
+    → Grows old new asked shown shown
+grows_none old new asked shown = record { report = λ r. r; kept = λ p k. k }
 
 pub grows_both : (old new : List Row) (asked : AskedRows) (a b c : List Difference)
     → Grows old new asked a b → Grows old new asked b c → Grows old new asked a c
@@ -224,7 +225,7 @@ grows_both old new asked a b c f g = record {
   kept = λ p k. g.kept p (f.kept p k);
 }
 
--- what is told of a question stays told
+-- what is shown of a question stays shown
 abbrev pub GrowsFor : Question → (before after : List Difference) → Type 0
 GrowsFor q before after =
     Grows q.lists.now.old.now q.lists.now.new.now (asked_in q) before after
@@ -234,31 +235,31 @@ pub grows_twice : (q : Question) (a b c : List Difference) → GrowsFor q a b �
 grows_twice q a b c f g =
     grows_both q.lists.now.old.now q.lists.now.new.now (asked_in q) a b c f g
 
-pub told_kept : (q : Question) (must cover : List AclRow) (before after : List Difference)
-    → GrowsFor q before after → AreTold q must cover before → AreTold q must cover after
-told_kept q must cover before after g t client topic user p e =
-    g.kept (is_told q client user topic) (t client topic user p e)
+pub shown_kept : (q : Question) (must cover : List AclRow) (before after : List Difference)
+    → GrowsFor q before after → AreShown q must cover before → AreShown q must cover after
+shown_kept q must cover before after g t client topic user p e =
+    g.kept (is_shown q client user topic) (t client topic user p e)
 
 pub kind_kept : (dollar : Bool) (q : Question) (must cover : List AclRow)
     (before after : List Difference) → GrowsFor q before after
-    → AreToldOf dollar q must cover before → AreToldOf dollar q must cover after
+    → AreShownOf dollar q must cover before → AreShownOf dollar q must cover after
 kind_kept dollar q must cover before after g t client topic user p kind e =
-    g.kept (is_told q client user topic) (t client topic user p kind e)
+    g.kept (is_shown q client user topic) (t client topic user p kind e)
 
 denied_kept : (q : Question) (before : List Marked) (grant : Marked) (place : ℕ)
-    (told more : List Difference) → GrowsFor q told more → IsDeniedAt q before grant place told
+    (shown more : List Difference) → GrowsFor q shown more → IsDeniedAt q before grant place shown
     → IsDeniedAt q before grant place more
-denied_kept q before grant place told more g t d low deny =
-    told_kept q (denied_must q place d grant) (denied_cover q place before) told more g (t d low deny)
+denied_kept q before grant place shown more g t d low deny =
+    shown_kept q (denied_must q place d grant) (denied_cover q place before) shown more g (t d low deny)
 
 -- ---- a row that grants
 -- of these places of rows that deny, the first are done
 pub record IsDoneTo (q : Question) (before : List Marked) (grant : Marked) (places : List ℕ) (n : ℕ)
-    (first told : List Difference) : Type 0 where
-  pub grows : GrowsFor q first told
-  pub granted : AreTold q (must_of None (row_view grant.row.now)) (granted_cover q before) told
+    (first shown : List Difference) : Type 0 where
+  pub grows : GrowsFor q first shown
+  pub granted : AreShown q (must_of None (row_view grant.row.now)) (granted_cover q before) shown
   pub denied : (k d : ℕ) → k < n → k < length places
-      → IsDeniedAt q before grant (get_or places k d) told
+      → IsDeniedAt q before grant (get_or places k d) shown
 
 pub get_number : (xs : List ℕ) (k a b : ℕ) → k < length xs → get_or xs k a ≡ get_or xs k b
 get_number [] k a b h = absurd (omega arith)
@@ -266,12 +267,13 @@ get_number (x ∷ xs) zero a b h = refl
 get_number (x ∷ xs) (suc k) a b h = get_number xs k a b (omega arith)
 
 pub done_one : (q : Question) (before : List Marked) (grant : Marked) (places : List ℕ) (n : ℕ)
-    (place : ℕ) (first told more : List Difference) → n < length places
-    → place ≡ get_or places n place → GrowsFor q told more → IsDeniedAt q before grant place more
-    → IsDoneTo q before grant places n first told → IsDoneTo q before grant places (n + 1) first more
-done_one q before grant places n place first told more low is g here s = record {
-  grows = grows_twice q first told more s.grows g;
-  granted = told_kept q (must_of None (row_view grant.row.now)) (granted_cover q before) told more g
+    (place : ℕ) (first shown more : List Difference) → n < length places
+    → place ≡ get_or places n place → GrowsFor q shown more → IsDeniedAt q before grant place more
+    → IsDoneTo q before grant places n first shown → IsDoneTo q before grant places (n + 1) first more
+done_one q before grant places n place first shown more low is g here s = record {
+  grows = grows_twice q first shown more s.grows g;
+  granted = shown_kept q (must_of None (row_view grant.row.now))
+      (granted_cover q before) shown more g
       s.granted;
   denied = λ k d below in_range. at k d below in_range (ltb k n) refl;
 }
@@ -279,7 +281,7 @@ done_one q before grant places n place first told more low is g here s = record 
     at : (k d : ℕ) → k < n + 1 → k < length places → (b : Bool) → ltb k n ≡ b
         → IsDeniedAt q before grant (get_or places k d) more
     at k d below in_range true e =
-        denied_kept q before grant (get_or places k d) told more g
+        denied_kept q before grant (get_or places k d) shown more g
         (s.denied k d (ltb-true k n e) in_range)
     at k d below in_range false e =
         let above = ltb-false k n e in
@@ -288,63 +290,64 @@ done_one q before grant places n place first told more low is g here s = record 
         (subst (λ j. IsDeniedAt q before grant j more) (is ∙ get_number places n place d low) here)
 
 pub done_all : (q : Question) (before : List Marked) (grant : Marked) (places : List ℕ) (n : ℕ)
-    (first told : List Difference) → length places ≤ n
+    (first shown : List Difference) → length places ≤ n
     → HasDenies q.from.now.rows.items places
-    → IsDoneTo q before grant places n first told → AreToldBy q before grant told
-done_all q before grant places n first told end has s = record {
+    → IsDoneTo q before grant places n first shown → AreShownBy q before grant shown
+done_all q before grant places n first shown end has s = record {
   granted = s.granted;
   denied = λ place d low deny.
-      All-contains (λ k. IsDeniedAt q before grant k told) places place
+      All-contains (λ k. IsDeniedAt q before grant k shown) places place
       (λ k e in_range. s.denied k e (omega arith) in_range) (has place d low deny) d low deny;
 }
 
 -- ---- all that grant
--- of the rows that decide, what the first of them grant is told
-pub record AreDoneTo (q : Question) (n : ℕ) (first told : List Difference) : Type 0 where
-  pub grows : GrowsFor q first told
+-- of the rows that decide, what the first of them grant is shown
+pub record AreDoneTo (q : Question) (n : ℕ) (first shown : List Difference) : Type 0 where
+  pub grows : GrowsFor q first shown
   pub granted : (place : ℕ) (d : Marked) → place < n → place < length q.to.now.rows.items
       → is_deny (row_view (get_or q.to.now.rows.items place d).row.now).access ≡ false
-      → AreToldBy q (take place q.to.now.rows.items) (get_or q.to.now.rows.items place d) told
+      → AreShownBy q (take place q.to.now.rows.items) (get_or q.to.now.rows.items place d) shown
 
-told_by_kept : (q : Question) (done : List Marked) (grant : Marked) (before after : List Difference)
-    → GrowsFor q before after → AreToldBy q done grant before → AreToldBy q done grant after
-told_by_kept q done grant before after g t = record {
-  granted = told_kept q (must_of None (row_view grant.row.now)) (granted_cover q done) before after g
+shown_by_kept : (q : Question) (done : List Marked) (grant : Marked)
+    (before after : List Difference)
+    → GrowsFor q before after → AreShownBy q done grant before → AreShownBy q done grant after
+shown_by_kept q done grant before after g t = record {
+  granted = shown_kept q (must_of None (row_view grant.row.now)) (granted_cover q done) before after g
       t.granted;
   denied = λ place. denied_kept q done grant place before after g (t.denied place);
 }
 
-pub are_done_none : (q : Question) (told : List Difference) → AreDoneTo q 0 told told
-are_done_none q told = record {
-  grows = grows_none q.lists.now.old.now q.lists.now.new.now (asked_in q) told;
+pub are_done_none : (q : Question) (shown : List Difference) → AreDoneTo q 0 shown shown
+are_done_none q shown = record {
+  grows = grows_none q.lists.now.old.now q.lists.now.new.now (asked_in q) shown;
   granted = λ place d low. absurd (omega arith);
 }
 
-pub are_done_one : (q : Question) (n : ℕ) (grant : Marked) (first told more : List Difference)
+pub are_done_one : (q : Question) (n : ℕ) (grant : Marked) (first shown more : List Difference)
     → n < length q.to.now.rows.items → grant ≡ get_or q.to.now.rows.items n grant
-    → GrowsFor q told more
+    → GrowsFor q shown more
     → (is_deny (row_view grant.row.now).access ≡ false
-    → AreToldBy q (take n q.to.now.rows.items) grant more)
-    → AreDoneTo q n first told → AreDoneTo q (n + 1) first more
-are_done_one q n grant first told more low is g here s = record {
-  grows = grows_twice q first told more s.grows g;
+    → AreShownBy q (take n q.to.now.rows.items) grant more)
+    → AreDoneTo q n first shown → AreDoneTo q (n + 1) first more
+are_done_one q n grant first shown more low is g here s = record {
+  grows = grows_twice q first shown more s.grows g;
   granted = λ place d below in_range. at place d below in_range (ltb place n) refl;
 }
   where
     at : (place : ℕ) (d : Marked) → place < n + 1 → place < length q.to.now.rows.items
         → (b : Bool) → ltb place n ≡ b
         → is_deny (row_view (get_or q.to.now.rows.items place d).row.now).access ≡ false
-        → AreToldBy q (take place q.to.now.rows.items) (get_or q.to.now.rows.items place d) more
+        → AreShownBy q (take place q.to.now.rows.items) (get_or q.to.now.rows.items place d) more
     at place d below in_range true e deny =
-        told_by_kept q (take place q.to.now.rows.items) (get_or q.to.now.rows.items place d)
-        told more g (s.granted place d (ltb-true place n e) in_range deny)
+        shown_by_kept q (take place q.to.now.rows.items) (get_or q.to.now.rows.items place d)
+        shown more g (s.granted place d (ltb-true place n e) in_range deny)
     at place d below in_range false e deny =
         let above = ltb-false place n e in
         let same : n ≡ place = omega arith in
         let one : grant ≡ get_or q.to.now.rows.items place d =
         is ∙ get_same q.to.now.rows.items n grant d low
         ∙ ap (λ k. get_or q.to.now.rows.items k d) same in
-        subst (λ k. AreToldBy q (take k q.to.now.rows.items) (get_or q.to.now.rows.items place d)
+        subst (λ k. AreShownBy q (take k q.to.now.rows.items) (get_or q.to.now.rows.items place d)
         more) same
-        (subst (λ m. AreToldBy q (take n q.to.now.rows.items) m more) one
+        (subst (λ m. AreShownBy q (take n q.to.now.rows.items) m more) one
         (here (ap (λ (m : Marked). is_deny (row_view m.row.now).access) one ∙ deny)))

@@ -85,9 +85,9 @@ is_like d e = same_class d.class e.class && same_direction d.direction e.directi
 
 -- the difference is of this way and direction, of the class of this client, of topics that begin with
 -- `$` if this one does, and the lines that decide it decide this
-abbrev pub is_told_of : Rules → (old new : List Row) → Way → Direction → List ℕ
+abbrev pub is_shown_of : Rules → (old new : List Row) → Way → Direction → List ℕ
     → Option (List ℕ) → List ℕ → Difference → Bool
-is_told_of rules old new way direction client user topic d =
+is_shown_of rules old new way direction client user topic d =
     is_in (row_views old) (row_views new) user d.class && same_direction direction d.direction
     && same_way way d.way && same_start topic d.topic
     && (same_reason (reason_of rules old client user topic direction) d.old_reason
@@ -98,15 +98,15 @@ abbrev pub is_compared : Rules → (old new : List Row) → List ℕ → Option 
 is_compared rules old new client user =
     are_asked_of rules (row_views old ++ row_views new) client user
 
--- whatever changes for a client that a broker can have, and that they are compared for, is told
-abbrev pub TellsAll : Rules → (old new : List Row) → List Difference → Type 0
-TellsAll rules old new all = (way : Way) (direction : Direction) (client topic : List ℕ)
+-- whatever changes for a client that a broker can have, and that they are compared for, is shown
+abbrev pub ShowsAll : Rules → (old new : List Row) → List Difference → Type 0
+ShowsAll rules old new all = (way : Way) (direction : Direction) (client topic : List ℕ)
     (user : Option (List ℕ)) → can_be_id client ≡ true → can_be_user user ≡ true
     → is_compared rules old new client user ≡ true → is_name topic ≡ true
     → is_change rules way (row_views old) (row_views new) client user topic direction ≡ true
-    → list_any (is_told_of rules old new way direction client user topic) all ≡ true
+    → list_any (is_shown_of rules old new way direction client user topic) all ≡ true
 
--- what is told is so of this client and topic: a broker can have it, it is of the class, it does
+-- what is shown is so of this client and topic: a broker can have it, it is of the class, it does
 -- change, and these lines decide
 pub record Shows (rules : Rules) (old new : List Row) (d : Difference) (client : List ℕ)
     (user : Option (List ℕ)) (topic : List ℕ) : Type 0 where
@@ -164,7 +164,7 @@ AreUnnamed asked d = All (IsUnnamed asked) d.made_up.items
 abbrev pub IsKnown : AskedRows → Difference → Type 0
 IsKnown asked d = AreKnown asked (string_bytes d.client) (user_of d.class) d.topic
 
--- some texts are made up: each difference tells those that it has, which are the ones that no row of
+-- some texts are made up: each difference shows those that it has, which are the ones that no row of
 -- either list names, and they stand for others
 pub record AreMarked (rules : Rules) (old new : List Row) (all : List Difference) : Type 0 where
   pub asked : AskedRows

@@ -1,4 +1,4 @@
--- What is told where lists can't be compared.
+-- What is shown where lists can't be compared.
 use Rattle.std.specs.Prelude.{◌≡◌, ◌<◌, ◌+◌, ℕ, zero, suc, List, ⊤, Some, Contains, length}
 use Rattle.mq_acl.specs.Views.{line_views}
 use Rattle.mq_acl.specs.declared.row.Row.{Row}
@@ -16,7 +16,7 @@ abbrev pub rows_of : (old new : List Row) → Side → List Row
 rows_of old new Old = old
 rows_of old new New = new
 
--- what is told of two lists is so, and they are given up only where fewer steps are given than are
+-- what is shown of two lists is so, and they are given up only where fewer steps are given than are
 -- enough
 abbrev pub IsComparisonFault : Rules → (old new : List Row) → (steps : ℕ) → ComparisonFault
     → Type 0
@@ -31,7 +31,7 @@ IsComparisonFault rules old new steps (comparison.GaveUp side line others) =
     Contains (line_views (rows_of old new side)) line
     × (steps < enough_steps (length old + length new))
 
--- what is told of lists that can't be asked, of which the old one is the first
+-- what is shown of lists that can't be asked, of which the old one is the first
 abbrev pub fault_of : ListFault → ComparisonFault
 fault_of lists.Memory = comparison.Memory
 fault_of (lists.Line zero line) = comparison.OldLine line

@@ -16,7 +16,7 @@ use Rattle.mq_witness.specs.Ruled.{IsAskedOf, decides_by}
 use Rattle.mq_witness.specs.declared.clients.Clients.{Clients}
 use Rattle.mq_witness.specs.declared.clients.Clients.TheVariants as clients
 use Rattle.mq_findings.specs.ByOwner.{IsGrouped, is_for}
-use Rattle.mq_findings.specs.Differences.{is_change, is_told_of}
+use Rattle.mq_findings.specs.Differences.{is_change, is_shown_of}
 use Rattle.mq_findings.specs.Faults.{rows_of as rows_on}
 use Rattle.mq_findings.specs.Marks.{ArePlaced, IsKept, rows_of, views_of}
 use Rattle.mq_findings.specs.Ranks.{is_judge, judges, rank}
@@ -138,23 +138,23 @@ NeverMeet q must = (client topic : List ℕ) (user : Option (List ℕ))
     → IsPoint (asked_in q) q.clients client user topic
     → decides_by (rules_in q) client user topic must [] ≡ false
 
-abbrev pub is_told : Question → List ℕ → Option (List ℕ) → List ℕ → Difference → Bool
-is_told q client user topic d = is_told_of (rules_in q) q.lists.now.old.now q.lists.now.new.now
+abbrev pub is_shown : Question → List ℕ → Option (List ℕ) → List ℕ → Difference → Bool
+is_shown q client user topic d = is_shown_of (rules_in q) q.lists.now.old.now q.lists.now.new.now
     q.way q.direction client user topic d
 
--- where these rows concern it and those don't, it is told
-abbrev pub AreTold : Question → (must cover : List AclRow) → List Difference → Type 0
-AreTold q must cover told = (client topic : List ℕ) (user : Option (List ℕ))
+-- where these rows concern it and those don't, it is shown
+abbrev pub AreShown : Question → (must cover : List AclRow) → List Difference → Type 0
+AreShown q must cover shown = (client topic : List ℕ) (user : Option (List ℕ))
     → IsPoint (asked_in q) q.clients client user topic
     → decides_by (rules_in q) client user topic must cover ≡ true
-    → list_any (is_told q client user topic) told ≡ true
+    → list_any (is_shown q client user topic) shown ≡ true
 
 -- so it is of topics that begin with `$`, or of the others
-abbrev pub AreToldOf : Bool → Question → (must cover : List AclRow) → List Difference → Type 0
-AreToldOf dollar q must cover told = (client topic : List ℕ) (user : Option (List ℕ))
+abbrev pub AreShownOf : Bool → Question → (must cover : List AclRow) → List Difference → Type 0
+AreShownOf dollar q must cover shown = (client topic : List ℕ) (user : Option (List ℕ))
     → IsPoint (asked_in q) q.clients client user topic → begins_with_dollar topic ≡ dollar
     → decides_by (rules_in q) client user topic must cover ≡ true
-    → list_any (is_told q client user topic) told ≡ true
+    → list_any (is_shown q client user topic) shown ≡ true
 
 -- ---- what a grant gains
 abbrev pub must_of : Option AclRow → AclRow → List AclRow
@@ -183,7 +183,7 @@ gain_must gain = must_of (option_map (λ r. row_view r.now) gain.deny) (row_view
 abbrev pub gain_cover : Gain → List AclRow
 gain_cover gain = views_of gain.judging.now ++ views_of gain.before.now
 
--- ---- what is told of a gain
+-- ---- what is shown of a gain
 -- the class of the clients with the user name of a witness
 abbrev pub class_of : Clients → Option (String Global) → Class
 class_of clients.Anonymous user = classes.Anonymous
@@ -204,14 +204,14 @@ gain_reasons Gained gain =
 gain_reasons Lost gain =
     (Grant gain.grant.now.line, refused (option_map (λ r. r.now) gain.deny))
 
--- where its rows decide about topics of a kind, the difference is told of it
-abbrev pub IsToldBy : Bool → Question → Gain → Difference → Type 0
-IsToldBy dollar q gain d = (client topic : List ℕ) (user : Option (List ℕ))
+-- where its rows decide about topics of a kind, the difference is shown of it
+abbrev pub IsShownBy : Bool → Question → Gain → Difference → Type 0
+IsShownBy dollar q gain d = (client topic : List ℕ) (user : Option (List ℕ))
     → IsPoint (asked_in q) q.clients client user topic → begins_with_dollar topic ≡ dollar
     → decides_by (rules_in q) client user topic (gain_must gain) (gain_cover gain) ≡ true
-    → is_told q client user topic d ≡ true
+    → is_shown q client user topic d ≡ true
 
--- ---- what is told of a row that grants
+-- ---- what is shown of a row that grants
 -- it stands behind these, and is known not to be kept where it isn't
 pub record IsPlaced (q : Question) (before : List Marked) (grant : Marked) : Type 0 where
   pub split : IsSplit q.to.now.rows.items before grant.row.now
@@ -232,20 +232,20 @@ denied_cover q place before = views_of (take place q.from.now.rows.items) ++ vie
 -- where a row of the first list denied it, and was the first to decide
 abbrev pub IsDeniedAt : Question → (before : List Marked) → (grant : Marked) → ℕ
     → List Difference → Type 0
-IsDeniedAt q before grant place told = (d : Marked) → place < length q.from.now.rows.items
+IsDeniedAt q before grant place shown = (d : Marked) → place < length q.from.now.rows.items
     → is_deny (row_view (slice_index_or q.from.now.rows.items place d).row.now).access ≡ true
-    → AreTold q (denied_must q place d grant) (denied_cover q place before) told
+    → AreShown q (denied_must q place d grant) (denied_cover q place before) shown
 
 -- what it grants where no row decided, and where any row was the first to deny it
-pub record AreToldBy (q : Question) (before : List Marked) (grant : Marked)
-    (told : List Difference) : Type 0 where
-  pub granted : AreTold q (must_of None (row_view grant.row.now)) (granted_cover q before) told
-  pub denied : (place : ℕ) → IsDeniedAt q before grant place told
+pub record AreShownBy (q : Question) (before : List Marked) (grant : Marked)
+    (shown : List Difference) : Type 0 where
+  pub granted : AreShown q (must_of None (row_view grant.row.now)) (granted_cover q before) shown
+  pub denied : (place : ℕ) → IsDeniedAt q before grant place shown
 
--- all that these clients gain, or lose, is told
-abbrev pub TellsChanges : Question → List Difference → Type 0
-TellsChanges q told = (client topic : List ℕ) (user : Option (List ℕ))
+-- all that these clients gain, or lose, is shown
+abbrev pub ShowsChanges : Question → List Difference → Type 0
+ShowsChanges q shown = (client topic : List ℕ) (user : Option (List ℕ))
     → IsPoint (asked_in q) q.clients client user topic
     → is_change (rules_in q) q.way (row_views q.lists.now.old.now) (row_views q.lists.now.new.now)
     client user topic q.direction ≡ true
-    → list_any (is_told q client user topic) told ≡ true
+    → list_any (is_shown q client user topic) shown ≡ true

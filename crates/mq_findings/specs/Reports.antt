@@ -1,4 +1,4 @@
--- What is told of two lists, difference by difference.
+-- What is shown of two lists, difference by difference.
 use Rattle.std.specs.Prelude.{◌≡◌, ◌≤◌, ◌-◌, ℕ, Bool, true, false, List, [], ◌∷◌, ◌++◌, All, take}
 use Rattle.std.specs.Prelude.{if◌then◌else◌, length, slice_index_or}
 use Rattle.std.specs.List.{list_any}
@@ -11,9 +11,9 @@ use Rattle.mq_findings.specs.Differences.{is_like, IsReal, IsMarked, ShowsOthers
 use Rattle.mq_findings.specs.Differences.{AreUnnamed, IsKnown}
 use Rattle.mq_findings.specs.declared.difference.Difference.{Difference}
 
--- one more difference, unless one is told that is like it
+-- one more difference, unless one is shown that is like it
 abbrev pub added : List Difference → Difference → List Difference
-added told d = if list_any (λ e. is_like e d) told then told else told ++ d ∷ []
+added shown d = if list_any (λ e. is_like e d) shown then shown else shown ++ d ∷ []
 
 -- it is so, it calls made up what is, and that stands for others
 pub record IsSound (old new : List Row) (asked : AskedRows) (d : Difference) : Type 0 where
@@ -24,20 +24,21 @@ pub record IsSound (old new : List Row) (asked : AskedRows) (d : Difference) : T
   pub stands : ShowsOthers asked.rules old new asked d
 
 -- all are so, and no two alike
-pub record IsReport (old new : List Row) (asked : AskedRows) (told : List Difference) : Type 0 where
-  pub sound : All (IsSound old new asked) told
-  pub apart : AreApart told
+pub record IsReport (old new : List Row) (asked : AskedRows)
+    (shown : List Difference) : Type 0 where
+  pub sound : All (IsSound old new asked) shown
+  pub apart : AreApart shown
 
--- what is told stays told, and what is added may be told
+-- what is shown stays shown, and what is added may be shown
 pub record Grows (old new : List Row) (asked : AskedRows) (before after : List Difference)
     : Type 0 where
   pub report : IsReport old new asked before → IsReport old new asked after
   pub kept : (p : Difference → Bool) → list_any p before ≡ true → list_any p after ≡ true
 
 -- the difference at this place is of the last class, and those before it are of classes before it
-pub record IsLast (told : List Difference) (last : ℕ) : Type 0 where
-  pub within : last ≤ length told - 1
+pub record IsLast (shown : List Difference) (last : ℕ) : Type 0 where
+  pub within : last ≤ length shown - 1
   pub before : (d : Difference)
-      → All (λ e. class_order e.class (slice_index_or told last d).class ≡ Less) (take last told)
+      → All (λ e. class_order e.class (slice_index_or shown last d).class ≡ Less) (take last shown)
   pub none_behind : (d : Difference)
-      → All (λ e. is_gt (class_order e.class (slice_index_or told last d).class) ≡ false) told
+      → All (λ e. is_gt (class_order e.class (slice_index_or shown last d).class) ≡ false) shown

@@ -8,11 +8,11 @@ ghost use Rattle.mq_witness.specs.Asked.{IsListed};
 ghost use Rattle.mq_witness.specs.Clients.{can_be_id};
 ghost use Rattle.mq_witness.specs.Rows.{is_user_of};
 ghost use Rattle.mq_findings.specs.Classes.{can_be_user};
-ghost use Rattle.mq_findings.specs.Differences.{TellsAll, IsReal, AreApart, AreMarked, is_compared};
+ghost use Rattle.mq_findings.specs.Differences.{ShowsAll, IsReal, AreApart, AreMarked, is_compared};
 ghost use Rattle.mq_findings.specs.Faults.{IsComparisonFault};
 ghost use Rattle.mq_findings.specs.Questions.{AreLists, IsStop};
 ghost use Rattle.mq_findings.specs.Reports.{Grows};
-ghost use Rattle.mq_findings.specs.Changes.{AreClassRows, TellsIn, TellsUser};
+ghost use Rattle.mq_findings.specs.Changes.{AreClassRows, ShowsChangesIn, ShowsChangesOf};
 ghost use Rattle.mq_findings.specs.declared.way.Way.{Way};
 
 use crate::difference::Difference;
@@ -57,7 +57,8 @@ fn add_direction<'q>(
     requires rows { AreClassRows lists.now rows.now }
     ensures grows { OnOk result (Grows lists.entry.now.old.now lists.entry.now.new.now
         lists.entry.now.asked report.old.differences.items report.new.differences.items) }
-    ensures told { OnOk result ((way : Way) → TellsIn lists.entry.now rows.entry.now.clients way
+    ensures shown { OnOk result ((way : Way)
+        → ShowsChangesIn lists.entry.now rows.entry.now.clients way
         direction report.new.differences.items) }
     ensures fault { IfErr result (IsStop lists.entry.now) }
 {
@@ -93,8 +94,8 @@ fn add_clients<'q>(
     requires listed { IsListed lists.now.asked clients }
     ensures grows { OnOk result (Grows lists.entry.now.old.now lists.entry.now.new.now
         lists.entry.now.asked report.old.differences.items report.new.differences.items) }
-    ensures told { OnOk result ((way : Way) (direction : Direction)
-        → TellsIn lists.entry.now clients.entry way direction report.new.differences.items) }
+    ensures shown { OnOk result ((way : Way) (direction : Direction)
+        → ShowsChangesIn lists.entry.now clients.entry way direction report.new.differences.items) }
     ensures fault { IfErr result (IsStop lists.entry.now) }
 {
     let old = lists.old_rows.rows_for(alloc, clients)?;
@@ -110,8 +111,8 @@ fn add_users(alloc: Global, report: &mut Report, lists: &Lists) -> Result<(), Co
     requires { AreLists lists.now }
     ensures grows { OnOk result (Grows lists.entry.now.old.now lists.entry.now.new.now
         lists.entry.now.asked report.old.differences.items report.new.differences.items) }
-    ensures told { OnOk result ((user : List ℕ) → is_user_of user lists.entry.now.asked.rows ≡ true
-        → TellsUser lists.entry.now (Some user) report.new.differences.items) }
+    ensures shown { OnOk result ((user : List ℕ) → is_user_of user lists.entry.now.asked.rows ≡ true
+        → ShowsChangesOf lists.entry.now (Some user) report.new.differences.items) }
     ensures fault { IfErr result (IsStop lists.entry.now) }
 {
     let users = lists.asked.users(alloc)?;
@@ -126,7 +127,7 @@ fn add_all(alloc: Global, report: &mut Report, lists: &Lists) -> Result<(), Comp
     requires { AreLists lists.now }
     ensures grows { OnOk result (Grows lists.entry.now.old.now lists.entry.now.new.now
         lists.entry.now.asked report.old.differences.items report.new.differences.items) }
-    ensures told { OnOk result (TellsAll lists.entry.now.asked.rules lists.entry.now.old.now lists.entry.now.new.now
+    ensures shown { OnOk result (ShowsAll lists.entry.now.asked.rules lists.entry.now.old.now lists.entry.now.new.now
         report.new.differences.items) }
     ensures fault { IfErr result (IsStop lists.entry.now) }
 {
@@ -149,7 +150,7 @@ pub fn compare<'a>(
     new: &'a [Row],
     steps: u64,
 ) -> Result<Vec<Difference>, ComparisonFault>
-    ensures every { IfOk result (λ all. TellsAll rules old.entry.now new.entry.now all.items) }
+    ensures every { IfOk result (λ all. ShowsAll rules old.entry.now new.entry.now all.items) }
     ensures real { IfOk result (λ all. All (IsReal rules old.entry.now new.entry.now) all.items) }
     ensures once { IfOk result (λ all. AreApart all.items) }
     ensures marked { IfOk result (λ all. AreMarked rules old.entry.now new.entry.now all.items) }

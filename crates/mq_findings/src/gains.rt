@@ -7,9 +7,9 @@ ghost use Rattle.mq_acl.specs.Views.{row_view};
 ghost use Rattle.mq_witness.specs.Asked.{Knows};
 ghost use Rattle.mq_witness.specs.Rows.{lent_rows};
 ghost use Rattle.mq_witness.specs.Ruled.{ShowsBy, StandsBy};
-ghost use Rattle.mq_findings.specs.Questions.{AreTold, AreToldBy, AreToldOf, IsDeniedAt, IsGain};
-ghost use Rattle.mq_findings.specs.Questions.{IsPlaced, IsQuestion, IsStop, IsToldBy, NeverMeet};
-ghost use Rattle.mq_findings.specs.Questions.{TellsChanges, class_of, gain_cover, gain_must};
+ghost use Rattle.mq_findings.specs.Questions.{AreShown, AreShownBy, AreShownOf, IsDeniedAt, IsGain};
+ghost use Rattle.mq_findings.specs.Questions.{IsPlaced, IsQuestion, IsStop, IsShownBy, NeverMeet};
+ghost use Rattle.mq_findings.specs.Questions.{ShowsChanges, class_of, gain_cover, gain_must};
 ghost use Rattle.mq_findings.specs.Questions.{asked_in, gain_reasons, granted_cover, must_of};
 ghost use Rattle.mq_findings.specs.Questions.{IsSplit, side_with};
 ghost use Rattle.mq_findings.specs.Ranks.{rank};
@@ -117,7 +117,7 @@ fn difference_of(
     requires known { Knows (asked_in question.now) witness }
     ensures sound { IfOk result (IsSound question.entry.now.lists.now.old.now
         question.entry.now.lists.now.new.now (asked_in question.entry.now)) }
-    ensures told { IfOk result (λ d. IsToldBy dollar question.entry.now gain.entry.now d) }
+    ensures shown { IfOk result (λ d. IsShownBy dollar question.entry.now gain.entry.now d) }
 {
     let class = class_of(question.clients, witness.user);
     let asked = &question.lists.asked;
@@ -221,7 +221,7 @@ fn add_kind<'a>(
     ensures grows { OnOk result (Grows question.entry.now.lists.now.old.now
         question.entry.now.lists.now.new.now (asked_in question.entry.now)
         report.old.differences.items report.new.differences.items) }
-    ensures told { OnOk result (AreToldOf dollar question.entry.now (gain_must gain.entry.now)
+    ensures shown { OnOk result (AreShownOf dollar question.entry.now (gain_must gain.entry.now)
         (gain_cover gain.entry.now) report.new.differences.items) }
 {
     let asked = &question.lists.asked;
@@ -245,7 +245,7 @@ fn add_gain<'a>(
     ensures grows { OnOk result (Grows question.entry.now.lists.now.old.now
         question.entry.now.lists.now.new.now (asked_in question.entry.now)
         report.old.differences.items report.new.differences.items) }
-    ensures told { OnOk result (AreTold question.entry.now (gain_must gain.entry.now)
+    ensures shown { OnOk result (AreShown question.entry.now (gain_must gain.entry.now)
         (gain_cover gain.entry.now) report.new.differences.items) }
     ensures fault { IfErr result (IsStop question.entry.now.lists.now) }
 {
@@ -282,7 +282,7 @@ fn add_granted<'l, 'a>(
     ensures grows { OnOk result (Grows question.entry.now.lists.now.old.now
         question.entry.now.lists.now.new.now (asked_in question.entry.now)
         report.old.differences.items report.new.differences.items) }
-    ensures told { OnOk result (AreTold question.entry.now
+    ensures shown { OnOk result (AreShown question.entry.now
         (must_of None (row_view grant.entry.now.row.now))
         (granted_cover question.entry.now before.entry.now) report.new.differences.items) }
     ensures fault { IfErr result (IsStop question.entry.now.lists.now) }
@@ -331,7 +331,7 @@ fn add_denied<'l, 'a>(
     ensures grows { OnOk result (Grows question.entry.now.lists.now.old.now
         question.entry.now.lists.now.new.now (asked_in question.entry.now)
         report.old.differences.items report.new.differences.items) }
-    ensures told { OnOk result (IsDeniedAt question.entry.now before.entry.now grant.entry.now
+    ensures shown { OnOk result (IsDeniedAt question.entry.now before.entry.now grant.entry.now
         place report.new.differences.items) }
     ensures fault { IfErr result (IsStop question.entry.now.lists.now) }
 {
@@ -367,7 +367,7 @@ fn add_by_grant<'l, 'a>(
     ensures grows { OnOk result (Grows question.entry.now.lists.now.old.now
         question.entry.now.lists.now.new.now (asked_in question.entry.now)
         report.old.differences.items report.new.differences.items) }
-    ensures told { OnOk result (AreToldBy question.entry.now before.entry.now grant.entry.now
+    ensures shown { OnOk result (AreShownBy question.entry.now before.entry.now grant.entry.now
         report.new.differences.items) }
     ensures fault { IfErr result (IsStop question.entry.now.lists.now) }
 {
@@ -405,7 +405,7 @@ pub(crate) fn add_gains(
     ensures grows { OnOk result (Grows question.entry.now.lists.now.old.now
         question.entry.now.lists.now.new.now (asked_in question.entry.now)
         report.old.differences.items report.new.differences.items) }
-    ensures told { OnOk result (TellsChanges question.entry.now report.new.differences.items) }
+    ensures shown { OnOk result (ShowsChanges question.entry.now report.new.differences.items) }
     ensures fault { IfErr result (IsStop question.entry.now.lists.now) }
 {
     begin(report, question)?;

@@ -22,7 +22,7 @@ fn add_made_up(
     asked: &Asked,
     text: &str,
 ) -> Result<(), AllocError>
-    ensures told { OnOk result ((other : List ℕ) → has_text made_up.new.items other
+    ensures shown { OnOk result ((other : List ℕ) → has_text made_up.new.items other
         ≡ (has_text made_up.old.items other
         || (bytes_eq other text.entry.now && is_made_up other asked.entry.now))) }
     ensures unnamed { OnOk result (All (IsUnnamed asked.entry.now) made_up.old.items
@@ -46,7 +46,7 @@ pub(crate) fn made_up(
     user: Option<&str>,
     topic: &TopicName,
 ) -> Result<Vec<String>, AllocError>
-    ensures told { IfOk result (λ all. (text : List ℕ) → has_text all.items text
+    ensures shown { IfOk result (λ all. (text : List ℕ) → has_text all.items text
         ≡ (is_of text client.entry.now (option_copied user.entry) topic.entry.now
         && is_made_up text asked.entry.now)) }
     ensures unnamed { IfOk result (λ all. All (IsUnnamed asked.entry.now) all.items) }

@@ -123,7 +123,7 @@ names_among names (Some ms) = all_among names ms
 abbrev pub has_only : List (List ℕ) → Data → Bool
 has_only names d = names_among names (as_object d)
 
--- the word that tells the command stands beside its fields
+-- the word that names the command stands beside its fields
 abbrev pub word : Field
 word = row "do" text ignored
 

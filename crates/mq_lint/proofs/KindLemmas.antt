@@ -1,4 +1,4 @@
--- What is told of each row.
+-- What is shown of each row.
 use Rattle.std.proofs.Common.{◌≡◌, ◌<◌, ◌+◌, ℕ, zero, suc, Bool, true, false, List, [], ◌∷◌}
 use Rattle.std.proofs.Common.{◌++◌, Option, Contains, length, get_or, ltb, refl, ap, sym}
 use Rattle.std.proofs.Common.{◌∙◌, subst, arith, length-append}
@@ -14,7 +14,7 @@ use Rattle.mq_lint.specs.declared.fault.NeedlessFault.{NeedlessFault}
 use Rattle.mq_lint.specs.declared.fault.NeedlessFault.TheVariants.{Memory, Line, Mark, GaveUp}
 use Rattle.mq_lint.specs.declared.remark.RemarkKind.{RemarkKind}
 
--- what is told of the first rows
+-- what is shown of the first rows
 pub record AreKinds (rules : Rules) (rows : List Row) (n : ℕ) (kinds : List (Option RemarkKind)) : Type 0 where
   pub count : length kinds ≡ n
   pub each : (place : ℕ) (row : Row) (kind : Option RemarkKind) → place < n → place < length rows
@@ -72,7 +72,7 @@ line_inside rows n row low is =
     (All-unmap (Contains (line_views rows)) (λ (r : Row). r.line) rows
     (All-contains_itself (line_views rows)) n row low)
 
--- it is told of a row of the list
+-- it is shown of a row of the list
 pub stop_in : (rows : List Row) (limited : Bool) (n : ℕ) (row : Row) (fault : NeedlessFault)
     → n < length rows → row ≡ get_or rows n row → IsStop row.line limited fault
     → IsStopIn rows limited fault

@@ -23,7 +23,7 @@ use Rattle.mq_acl.specs.declared.rules.Rules.{Rules}
 use Rattle.mq_lint.specs.Blanks.{is_indented_comment, is_tabbed}
 use Rattle.mq_lint.specs.Remarks.{has_mark, is_odd_by, is_unmarked, entry_kind, kind_if}
 use Rattle.mq_lint.specs.Remarks.{remark_on}
-use Rattle.mq_lint.specs.Remarks.{line_remarks, remarks_from, fault_by, faults_told}
+use Rattle.mq_lint.specs.Remarks.{line_remarks, remarks_from, fault_by, faults_shown}
 use Rattle.mq_lint.specs.declared.remark.Remark.{Remark}
 use Rattle.mq_lint.specs.declared.remark.RemarkKind.{RemarkKind}
 use Rattle.mq_lint.specs.declared.remark.RemarkKind.TheVariants.{Fault, NoMark, IndentedComment}
@@ -124,16 +124,16 @@ remarks_step rules all number line h e =
 
 -- ---- the faults among the remarks
 
-abbrev told : Remark → Option AclFault
-told remark = fault_by remark.line remark.kind
+abbrev shown : Remark → Option AclFault
+shown remark = fault_by remark.line remark.kind
 
 no_fault : (number : ℕ) (b : Bool) (kind : RemarkKind) → fault_by number kind ≡ None
-    → faults_told (remark_on number (kind_if b kind)) ≡ []
+    → faults_shown (remark_on number (kind_if b kind)) ≡ []
 no_fault number true kind e = ap (λ o. cons_option o []) e
 no_fault number false kind e = refl
 
 entry_fault : (number : ℕ) (e : Result Entry AclKind)
-    → faults_told (remark_on number (entry_kind e)) ≡ option_to_list (fault_at number e)
+    → faults_shown (remark_on number (entry_kind e)) ≡ option_to_list (fault_at number e)
 entry_fault number (Err kind) = refl
 entry_fault number (Ok Skipped) = refl
 entry_fault number (Ok (User name)) = refl
@@ -141,19 +141,19 @@ entry_fault number (Ok (Topic access topic)) = refl
 entry_fault number (Ok (Pattern access topic)) = no_fault number (not (has_mark topic)) NoMark refl
 
 line_fault : (rules : Rules) (number : ℕ) (line : List ℕ)
-    → faults_told (line_remarks rules number line) ≡ option_to_list (fault_at number (entry_by rules line))
+    → faults_shown (line_remarks rules number line) ≡ option_to_list (fault_at number (entry_by rules line))
 line_fault rules number line =
     let entry = remark_on number (entry_kind (entry_by rules line)) in
     let comment = remark_on number (kind_if (is_odd_by rules (is_indented_comment line)) IndentedComment) in
     let tab = remark_on number (kind_if (is_odd_by rules (is_tabbed line)) Tab) in
-    filter_map-append told (entry ++ comment) tab
-    ∙ ap (λ l. l ++ faults_told tab) (filter_map-append told entry comment)
-    ∙ ap (λ l. (faults_told entry ++ faults_told comment) ++ l)
+    filter_map-append shown (entry ++ comment) tab
+    ∙ ap (λ l. l ++ faults_shown tab) (filter_map-append shown entry comment)
+    ∙ ap (λ l. (faults_shown entry ++ faults_shown comment) ++ l)
     (no_fault number (is_odd_by rules (is_tabbed line)) Tab refl)
-    ∙ append-nil (faults_told entry ++ faults_told comment)
-    ∙ ap (λ l. faults_told entry ++ l)
+    ∙ append-nil (faults_shown entry ++ faults_shown comment)
+    ∙ ap (λ l. faults_shown entry ++ l)
     (no_fault number (is_odd_by rules (is_indented_comment line)) IndentedComment refl)
-    ∙ append-nil (faults_told entry)
+    ∙ append-nil (faults_shown entry)
     ∙ entry_fault number (entry_by rules line)
 
 listed : {X : Type 0} (o : Option X) (xs : List X) → option_to_list o ++ xs ≡ cons_option o xs
@@ -162,11 +162,11 @@ listed (Some x) xs = refl
 
 -- the faults among the remarks on lines are those of the lines, with their numbers
 pub faults_from : (rules : Rules) (number : ℕ) (all : List (List ℕ))
-    → faults_told (remarks_from rules number all)
+    → faults_shown (remarks_from rules number all)
     ≡ filter_map (λ numbered. fault_at numbered.0 (entry_by rules numbered.1)) (enumerate_from number all)
 faults_from rules number [] = refl
 faults_from rules number (line ∷ all) =
-    filter_map-append told (line_remarks rules number line) (remarks_from rules (number + 1) all)
+    filter_map-append shown (line_remarks rules number line) (remarks_from rules (number + 1) all)
     ∙ (λ i. line_fault rules number line i ++ faults_from rules (number + 1) all i)
     ∙ listed (fault_at number (entry_by rules line))
     (filter_map (λ numbered. fault_at numbered.0 (entry_by rules numbered.1))

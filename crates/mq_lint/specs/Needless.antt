@@ -137,7 +137,7 @@ abbrev pub IsBy : Rules → List Row → AclRow → Option ℕ → Type 0
 IsBy rules rows row (Some line) = IsFirstMaker rules rows row line
 IsBy rules rows row None = MakesNone rules rows row (length rows)
 
--- ---- what is told
+-- ---- what is shown
 -- the list without the row, and those that repeat it, allows the same; this makes it so
 pub record IsNeedless (rules : Rules) (rows : List Row) (row : AclRow) (by : Option ℕ)
     : Type 0 where
@@ -145,7 +145,7 @@ pub record IsNeedless (rules : Rules) (rows : List Row) (row : AclRow) (by : Opt
   pub same : AllowSame rules (row_views rows) (row_views rows) (without row (row_views rows))
   pub makes : IsBy rules rows row by
 
--- this is told of the row at the place, where it doesn't repeat another
+-- this is shown of the row at the place, where it doesn't repeat another
 abbrev pub IsKindAlone : Rules → List Row → AclRow → Option RemarkKind → Type 0
 IsKindAlone rules rows row (Some DeniesNothing) = DeniesNone rules rows row
 IsKindAlone rules rows row (Some (Needless by)) = IsNeedless rules rows row by
@@ -157,21 +157,21 @@ abbrev pub IsKindUnless : Rules → List Row → AclRow → Option ℕ → Optio
 IsKindUnless rules rows row (Some line) kind = kind ≡ Some (Repeats line)
 IsKindUnless rules rows row None kind = IsKindAlone rules rows row kind
 
--- this is told of the row at the place
+-- this is shown of the row at the place
 abbrev pub IsKind : Rules → List Row → ℕ → Row → Option RemarkKind → Type 0
 IsKind rules rows place row kind =
     IsKindUnless rules rows (row_view row) (repeated rows place (row_view row)) kind
 
--- the remarks on the rows of which something is told, in their order
+-- the remarks on the rows of which something is shown, in their order
 abbrev pub remarks_of_kinds : List Row → List (Option RemarkKind) → List Remark
 remarks_of_kinds rows kinds =
-    filter_map (λ told. option_map (λ kind. record { line = told.0.line; kind = kind }) told.1)
+    filter_map (λ shown. option_map (λ kind. record { line = shown.0.line; kind = kind }) shown.1)
     (zip rows kinds)
 
--- of each row what is told is so, and each of which nothing is told is needed
-pub record AreNeedless (rules : Rules) (rows : List Row) (told : List Remark) : Type 0 where
+-- of each row what is shown is so, and each of which nothing is shown is needed
+pub record AreNeedless (rules : Rules) (rows : List Row) (shown : List Remark) : Type 0 where
   pub kinds : List (Option RemarkKind)
   pub all : length kinds ≡ length rows
   pub each : (place : ℕ) (row : Row) (kind : Option RemarkKind) → place < length rows
       → IsKind rules rows place (slice_index_or rows place row) (slice_index_or kinds place kind)
-  pub remarks : told ≡ remarks_of_kinds rows kinds
+  pub remarks : shown ≡ remarks_of_kinds rows kinds

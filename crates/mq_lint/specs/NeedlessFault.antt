@@ -1,4 +1,4 @@
--- What is told where the needless lines of a list aren't.
+-- What is shown where the needless lines of a list aren't.
 use Rattle.std.specs.Prelude.{◌≡◌, ◌<◌, ℕ, Bool, true, List, ⊤, Some, Contains, length}
 use Rattle.mq_acl.specs.Views.{line_views}
 use Rattle.mq_acl.specs.declared.row.Row.{Row}
@@ -8,7 +8,8 @@ use Rattle.mq_findings.specs.Steps.{enough_steps}
 use Rattle.mq_lint.specs.declared.fault.NeedlessFault.{NeedlessFault}
 use Rattle.mq_lint.specs.declared.fault.NeedlessFault.TheVariants.{Memory, Line, Mark, GaveUp}
 
--- what is told of a list is so, and it is given up only where fewer steps are given than are enough
+-- what is shown of a list is so, and it is given up only where fewer steps are given than are
+-- enough
 abbrev pub IsNeedlessFault : Rules → List Row → (steps : ℕ) → NeedlessFault → Type 0
 IsNeedlessFault rules rows steps Memory = ⊤
 IsNeedlessFault rules rows steps (Line line) = long_line rows ≡ Some line

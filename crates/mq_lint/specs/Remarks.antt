@@ -60,8 +60,8 @@ fault_by line (Fault kind) = Some (record { line = line; kind = kind })
 fault_by line kind = None
 
 -- the faults among the remarks
-abbrev pub faults_told : List Remark → List AclFault
-faults_told remarks = filter_map (λ remark. fault_by remark.line remark.kind) remarks
+abbrev pub faults_shown : List Remark → List AclFault
+faults_shown remarks = filter_map (λ remark. fault_by remark.line remark.kind) remarks
 
 -- the row is of a `pattern` line without a mark
 abbrev pub is_unmarked : AclRow → Bool

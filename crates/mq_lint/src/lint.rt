@@ -6,7 +6,7 @@ ghost use Rattle.mq_acl.specs.Rows.{entry_by, faults_by};
 ghost use Rattle.mq_acl.specs.Views.{row_view};
 ghost use Rattle.mq_lint.specs.Blanks.{is_indented_comment, is_tabbed};
 ghost use Rattle.mq_lint.specs.Remarks.{is_odd_by, is_unmarked, entry_kind, kind_if, remark_on};
-ghost use Rattle.mq_lint.specs.Remarks.{line_remarks, remarks_of, faults_told};
+ghost use Rattle.mq_lint.specs.Remarks.{line_remarks, remarks_of, faults_shown};
 
 use crate::blanks::{is_indented_comment, is_tabbed};
 use crate::remark::{Remark, RemarkKind};
@@ -95,7 +95,7 @@ fn add_line(
 /// rules, what mosquitto 2.0 reads otherwise, or doesn't start with.
 pub fn remarks(alloc: Global, rules: Rules, text: &str) -> Result<Vec<Remark>, AllocError>
     ensures all { IfOk result (λ remarks. remarks.items ≡ remarks_of rules text.now) }
-    ensures faults { IfOk result (λ remarks. faults_told remarks.items
+    ensures faults { IfOk result (λ remarks. faults_shown remarks.items
         ≡ faults_by rules (lines text.now)) }
 {
     let mut remarks = Vec::new(alloc);

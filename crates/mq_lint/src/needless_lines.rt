@@ -205,7 +205,7 @@ pub fn needless(
     rows: &[Row],
     steps: u64,
 ) -> Result<Vec<Remark>, NeedlessFault>
-    ensures told { IfOk result (λ told. AreNeedless rules rows.now told.items) }
+    ensures shown { IfOk result (λ shown. AreNeedless rules rows.now shown.items) }
     ensures fault { IfErr result (IsNeedlessFault rules rows.now steps) }
 {
     let lint = Lint::of(alloc, rules, rows, steps)?;

@@ -1,4 +1,4 @@
--- What is told so far, and of whom.
+-- What is shown so far, and of whom.
 use Rattle.std.proofs.Common.{◌≡◌, ◌<◌, ◌≤◌, ◌+◌, ℕ, Bool, true, false, List, [], ◌∷◌, ◌++◌}
 use Rattle.std.proofs.Common.{Option, Some, None, All, Bor, length, get_or, ltb, refl, ap, sym}
 use Rattle.std.proofs.Common.{◌∙◌, subst, arith, zero, suc, bytes_eq, string_bytes}
@@ -31,9 +31,9 @@ use Rattle.mq_otherwise.specs.declared.fault.OtherwiseFault.{OtherwiseFault}
 use Rattle.mq_otherwise.specs.declared.fault.OtherwiseFault.TheVariants as faults
 use Rattle.mq_otherwise.specs.declared.otherwise.Otherwise.{Otherwise}
 
--- ---- what is told
-pub grows_none : (rows : List Row) (told : List Otherwise) → Grows rows told told
-grows_none rows told = record { kept = λ e. e; real = λ r. r }
+-- ---- what is shown
+pub grows_none : (rows : List Row) (shown : List Otherwise) → Grows rows shown shown
+grows_none rows shown = record { kept = λ e. e; real = λ r. r }
 
 pub grows_both : (rows : List Row) (first then last : List Otherwise) → Grows rows first then
     → Grows rows then last → Grows rows first last
@@ -42,17 +42,17 @@ grows_both rows first then last g h = record {
   real = λ r. h.real (g.real r);
 }
 
-pub not_empty : {A : Type 0} (told : List Otherwise) (one : Otherwise) → (told ++ (one ∷ [])) ≡ []
+pub not_empty : {A : Type 0} (shown : List Otherwise) (one : Otherwise) → (shown ++ (one ∷ [])) ≡ []
     → A
 not_empty [] one e = absurd (let q = e in cc)
 not_empty (x ∷ xs) one e = absurd (let q = e in cc)
 
-pub grows_one : (rows : List Row) (told after : List Otherwise) (one : Otherwise)
-    → after ≡ told ++ (one ∷ []) → IsReal rows one → Grows rows told after
-grows_one rows told after one e real = record {
-  kept = λ none. not_empty told one (sym e ∙ none);
+pub grows_one : (rows : List Row) (shown after : List Otherwise) (one : Otherwise)
+    → after ≡ shown ++ (one ∷ []) → IsReal rows one → Grows rows shown after
+grows_one rows shown after one e real = record {
+  kept = λ none. not_empty shown one (sym e ∙ none);
   real = λ all. subst (All (IsReal rows)) (sym e)
-      (All-append (IsReal rows) told (one ∷ []) all
+      (All-append (IsReal rows) shown (one ∷ []) all
       (All-cons (IsReal rows) one [] real (All-nil (IsReal rows))));
 }
 
@@ -97,9 +97,9 @@ same_for_user rows asked name is same client topic direction case =
 
 -- the clients of the first user names are done
 pub record AreUsersDone (rows : List Row) (asked : AskedRows) (names : List (Bor (List ℕ))) (n : ℕ)
-    (first told : List Otherwise) : Type 0 where
-  pub grows : Grows rows first told
-  pub users : told ≡ [] → (place : ℕ) (d : Bor (List ℕ)) → place < n → place < length names
+    (first shown : List Otherwise) : Type 0 where
+  pub grows : Grows rows first shown
+  pub users : shown ≡ [] → (place : ℕ) (d : Bor (List ℕ)) → place < n → place < length names
       → DecideSameFor asked (Some (get_or names place d).now)
 
 pub same_name : (names : List (Bor (List ℕ))) (k : ℕ) (a b : Bor (List ℕ)) → k < length names
@@ -109,13 +109,13 @@ same_name (r ∷ rs) zero a b h = refl
 same_name (r ∷ rs) (suc k) a b h = same_name rs k a b (omega arith)
 
 pub users_one : (rows : List Row) (asked : AskedRows) (names : List (Bor (List ℕ))) (n : ℕ)
-    (name : Bor (List ℕ)) (first told more : List Otherwise) → n < length names
-    → name ≡ get_or names n name → Grows rows told more
+    (name : Bor (List ℕ)) (first shown more : List Otherwise) → n < length names
+    → name ≡ get_or names n name → Grows rows shown more
     → (more ≡ [] → DecideSameFor asked (Some name.now))
-    → AreUsersDone rows asked names n first told
+    → AreUsersDone rows asked names n first shown
     → AreUsersDone rows asked names (n + 1) first more
-users_one rows asked names n name first told more low is g here s = record {
-  grows = grows_both rows first told more s.grows g;
+users_one rows asked names n name first shown more low is g here s = record {
+  grows = grows_both rows first shown more s.grows g;
   users = λ none place d below in_range. at none place d below in_range (ltb place n) refl;
 }
   where
@@ -142,11 +142,11 @@ name_listed asked names n name low is all =
 
 -- all that a row names are among them
 pub users_all : (rows : List Row) (asked : AskedRows) (names : List (Bor (List ℕ))) (n : ℕ)
-    (first told : List Otherwise) → length names ≤ n
+    (first shown : List Otherwise) → length names ≤ n
     → ((user : List ℕ) → is_among user names ≡ is_user_of user asked.rows)
-    → AreUsersDone rows asked names n first told → told ≡ []
+    → AreUsersDone rows asked names n first shown → shown ≡ []
     → (user : List ℕ) → is_user_of user asked.rows ≡ true → DecideSameFor asked (Some user)
-users_all rows asked names n first told end all s none user listed =
+users_all rows asked names n first shown end all s none user listed =
     let at = first_place (λ (other : Bor (List ℕ)). bytes_eq user other.now) names
     (all user ∙ listed) in
     let low = at.in_range in
@@ -177,35 +177,35 @@ all_clients rows asked is anonymous users others client topic (Some name) direct
         (case_point rows asked clients.Others client topic (Some name) is
         (rw (case.user_fits, e) refl) case)
 
--- ---- what is told of a witness
-pub real_of : (rows : List Row) (asked : AskedRows) (c : Clients) (told : Otherwise)
-    (user : Option (List ℕ)) → IsAsked rows asked → user_of told.class ≡ user
-    → IsPoint asked c (string_bytes told.client) user told.topic
-    → DecideOtherwise asked.rows (string_bytes told.client) user told.topic told.direction
-    → told.own ≡ reason_of Own rows (string_bytes told.client) (user_of told.class) told.topic
-    told.direction
-    → told.mosquitto ≡ reason_of Mosquitto rows (string_bytes told.client) (user_of told.class)
-    told.topic told.direction
-    → IsReal rows told
-real_of rows asked c told user is same point otherwise own mosquitto = record {
+-- ---- what is shown of a witness
+pub real_of : (rows : List Row) (asked : AskedRows) (c : Clients) (shown : Otherwise)
+    (user : Option (List ℕ)) → IsAsked rows asked → user_of shown.class ≡ user
+    → IsPoint asked c (string_bytes shown.client) user shown.topic
+    → DecideOtherwise asked.rows (string_bytes shown.client) user shown.topic shown.direction
+    → shown.own ≡ reason_of Own rows (string_bytes shown.client) (user_of shown.class) shown.topic
+    shown.direction
+    → shown.mosquitto ≡ reason_of Mosquitto rows (string_bytes shown.client) (user_of shown.class)
+    shown.topic shown.direction
+    → IsReal rows shown
+real_of rows asked c shown user is same point otherwise own mosquitto = record {
   can_be = record {
     client_fits = point.is_asked.client_fits;
     user_fits = ap can_be_user same ∙ client_user asked c user point.is_asked.user_fits;
-    are_asked = (λ i. are_asked_of (sym is.rules i) (sym is.are i) (string_bytes told.client)
+    are_asked = (λ i. are_asked_of (sym is.rules i) (sym is.are i) (string_bytes shown.client)
         (same i)) ∙ point.is_asked.are_asked;
     valid = point.valid;
   };
-  otherwise = subst (λ r. DecideOtherwise r (string_bytes told.client) (user_of told.class)
-      told.topic told.direction) is.are
-      (subst (λ u. DecideOtherwise asked.rows (string_bytes told.client) u told.topic
-      told.direction) (sym same) otherwise);
+  otherwise = subst (λ r. DecideOtherwise r (string_bytes shown.client) (user_of shown.class)
+      shown.topic shown.direction) is.are
+      (subst (λ u. DecideOtherwise asked.rows (string_bytes shown.client) u shown.topic
+      shown.direction) (sym same) otherwise);
   own = own;
   mosquitto = mosquitto;
 }
 
 -- ---- the answer
-pub none_real : (rows : List Row) (told : List Otherwise) → told ≡ [] → All (IsReal rows) told
-none_real rows told e = subst (All (IsReal rows)) (sym e) (All-nil (IsReal rows))
+pub none_real : (rows : List Row) (shown : List Otherwise) → shown ≡ [] → All (IsReal rows) shown
+none_real rows shown e = subst (All (IsReal rows)) (sym e) (All-nil (IsReal rows))
 
 -- where it is given up
 pub stop_fault : (rows : List Row) (limited : Bool) (steps : ℕ)

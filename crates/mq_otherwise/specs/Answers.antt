@@ -44,17 +44,17 @@ pub record IsCase (rows : List AclRow) (client : List ℕ) (user : Option (List 
   pub are_asked : are_asked_of Mosquitto rows client user ≡ true
   pub valid : is_name topic ≡ true
 
--- what is told of this client and topic is so
-pub record IsRealOf (rows : List Row) (told : Otherwise) (client : List ℕ)
+-- what is shown of this client and topic is so
+pub record IsRealOf (rows : List Row) (shown : Otherwise) (client : List ℕ)
     (user : Option (List ℕ)) (topic : List ℕ) : Type 0 where
   pub can_be : IsCase (row_views rows) client user topic
-  pub otherwise : DecideOtherwise (row_views rows) client user topic told.direction
-  pub own : told.own ≡ reason_of Own rows client user topic told.direction
-  pub mosquitto : told.mosquitto ≡ reason_of Mosquitto rows client user topic told.direction
+  pub otherwise : DecideOtherwise (row_views rows) client user topic shown.direction
+  pub own : shown.own ≡ reason_of Own rows client user topic shown.direction
+  pub mosquitto : shown.mosquitto ≡ reason_of Mosquitto rows client user topic shown.direction
 
 abbrev pub IsReal : List Row → Otherwise → Type 0
-IsReal rows told =
-    IsRealOf rows told (string_bytes told.client) (user_of told.class) told.topic
+IsReal rows shown =
+    IsRealOf rows shown (string_bytes shown.client) (user_of shown.class) shown.topic
 
 -- ---- all clients and topics
 -- for each client that a broker can have, both rules decide the same
@@ -142,8 +142,8 @@ abbrev pub NoneAlone : AskedRows → Clients → (dollar : Bool) → (grants cov
 NoneAlone asked clients dollar grants cover =
     All (λ grant. FindsNoneBy dollar asked clients (grant ∷ []) cover) grants
 
--- ---- what is told so far
--- nothing that was told is forgotten, and what is added is so
+-- ---- what is shown so far
+-- nothing that was shown is forgotten, and what is added is so
 pub record Grows (rows : List Row) (before after : List Otherwise) : Type 0 where
   pub kept : after ≡ [] → before ≡ []
   pub real : All (IsReal rows) before → All (IsReal rows) after

@@ -1,4 +1,4 @@
--- What is told where a list can't be asked.
+-- What is shown where a list can't be asked.
 use Rattle.std.specs.Prelude.{◌≡◌, ◌<◌, ℕ, Bool, true, List, ⊤, Some, length}
 use Rattle.mq_acl.specs.declared.row.Row.{Row}
 use Rattle.mq_acl.specs.declared.rules.Rules.TheVariants as rules
@@ -7,7 +7,7 @@ use Rattle.mq_findings.specs.Steps.{enough_steps}
 use Rattle.mq_otherwise.specs.declared.fault.OtherwiseFault.{OtherwiseFault}
 use Rattle.mq_otherwise.specs.declared.fault.OtherwiseFault.TheVariants.{Memory, Line, Mark, GaveUp}
 
--- what is told of the list is so, and it is given up only where fewer steps are given than are enough
+-- what is shown of the list is so, and it is given up only where fewer steps are given than are enough
 abbrev pub IsOtherwiseFault : List Row → (steps : ℕ) → OtherwiseFault → Type 0
 IsOtherwiseFault rows steps Memory = ⊤
 IsOtherwiseFault rows steps (Line line) = long_line rows ≡ Some line

@@ -35,9 +35,9 @@ fn add_kind(
     dollar: bool,
 ) -> Result<(), OtherwiseFault>
     requires { name_passes (λ user. is_user_of user list.now.asked.rows) clients ≡ true }
-    ensures grows { OnOk result (Grows list.entry.now.rows.now report.old.told.items
-        report.new.told.items) }
-    ensures same { OnOk result (report.new.told.items ≡ []
+    ensures grows { OnOk result (Grows list.entry.now.rows.now report.old.shown.items
+        report.new.shown.items) }
+    ensures same { OnOk result (report.new.shown.items ≡ []
         → DecideSameOf list.entry.now.asked clients.entry direction dollar) }
     ensures fault { IfErr result (IsStop list.entry.now.limited) }
 {
@@ -57,13 +57,13 @@ fn add_kind(
     {
         return Err(OtherwiseFault::GaveUp);
     }
-    let Some(told) = question.answer(alloc, &mut report.steps, &parts)? else {
+    let Some(shown) = question.answer(alloc, &mut report.steps, &parts)? else {
         return Ok(());
     };
     if !report.steps.spend(list.limited, list.rows.len() as u64) {
         return Err(OtherwiseFault::GaveUp);
     }
-    report.add(told)?;
+    report.add(shown)?;
     Ok(())
 }
 
@@ -76,9 +76,9 @@ fn add_direction(
     direction: Direction,
 ) -> Result<(), OtherwiseFault>
     requires { name_passes (λ user. is_user_of user list.now.asked.rows) clients ≡ true }
-    ensures grows { OnOk result (Grows list.entry.now.rows.now report.old.told.items
-        report.new.told.items) }
-    ensures same { OnOk result (report.new.told.items ≡ []
+    ensures grows { OnOk result (Grows list.entry.now.rows.now report.old.shown.items
+        report.new.shown.items) }
+    ensures same { OnOk result (report.new.shown.items ≡ []
         → DecideSameIn list.entry.now.asked clients.entry direction) }
     ensures fault { IfErr result (IsStop list.entry.now.limited) }
 {
@@ -95,9 +95,9 @@ fn add_clients(
     clients: Clients,
 ) -> Result<(), OtherwiseFault>
     requires { name_passes (λ user. is_user_of user list.now.asked.rows) clients ≡ true }
-    ensures grows { OnOk result (Grows list.entry.now.rows.now report.old.told.items
-        report.new.told.items) }
-    ensures same { OnOk result (report.new.told.items ≡ [] → (direction : Direction)
+    ensures grows { OnOk result (Grows list.entry.now.rows.now report.old.shown.items
+        report.new.shown.items) }
+    ensures same { OnOk result (report.new.shown.items ≡ [] → (direction : Direction)
         → DecideSameIn list.entry.now.asked clients.entry direction) }
     ensures fault { IfErr result (IsStop list.entry.now.limited) }
 {
@@ -108,9 +108,9 @@ fn add_clients(
 
 // Adds where they do for the clients of each user name that the list names.
 fn add_users(alloc: Global, report: &mut Report, list: &AskedList) -> Result<(), OtherwiseFault>
-    ensures grows { OnOk result (Grows list.entry.now.rows.now report.old.told.items
-        report.new.told.items) }
-    ensures same { OnOk result (report.new.told.items ≡ [] → (user : List ℕ)
+    ensures grows { OnOk result (Grows list.entry.now.rows.now report.old.shown.items
+        report.new.shown.items) }
+    ensures same { OnOk result (report.new.shown.items ≡ [] → (user : List ℕ)
         → is_user_of user list.entry.now.asked.rows ≡ true
         → DecideSameFor list.entry.now.asked (Some user)) }
     ensures fault { IfErr result (IsStop list.entry.now.limited) }
@@ -124,9 +124,9 @@ fn add_users(alloc: Global, report: &mut Report, list: &AskedList) -> Result<(),
 
 // Adds where they do for all clients.
 fn add_all(alloc: Global, report: &mut Report, list: &AskedList) -> Result<(), OtherwiseFault>
-    ensures grows { OnOk result (Grows list.entry.now.rows.now report.old.told.items
-        report.new.told.items) }
-    ensures same { OnOk result (report.new.told.items ≡ []
+    ensures grows { OnOk result (Grows list.entry.now.rows.now report.old.shown.items
+        report.new.shown.items) }
+    ensures same { OnOk result (report.new.shown.items ≡ []
         → DecideAllSame list.entry.now.asked.rows) }
     ensures fault { IfErr result (IsStop list.entry.now.limited) }
 {
@@ -166,5 +166,5 @@ pub fn decided_otherwise(
     let list = AskedList::of(alloc, rows, steps)?;
     let mut report = Report::new(alloc, steps);
     add_all(alloc, &mut report, &list)?;
-    Ok(report.into_told())
+    Ok(report.into_shown())
 }

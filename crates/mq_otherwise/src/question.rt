@@ -72,7 +72,7 @@ impl Question<'_, '_> {
     ghost use Rattle.mq_otherwise.specs.Faults.{IsStop};
 
     // What is shown of a witness.
-    fn tell(&self, witness: Witness) -> Otherwise
+    fn describe(&self, witness: Witness) -> Otherwise
         requires point { IsPoint self.now.asked.now self.now.clients (string_bytes witness.client)
             (user_view witness.user) witness.name }
         requires otherwise { DecideOtherwise self.now.asked.now.rows (string_bytes witness.client)
@@ -131,7 +131,7 @@ impl Question<'_, '_> {
         else {
             return Ok(None);
         };
-        Ok(Some(self.tell(witness)))
+        Ok(Some(self.describe(witness)))
     }
 
     // Whether each of the rows concerns a topic.

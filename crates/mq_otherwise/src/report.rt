@@ -7,38 +7,38 @@ use std::alloc::{AllocError, Global};
 
 /// What is found so far, and the steps that are left.
 pub(crate) struct Report {
-    pub told: Vec<Otherwise>,
+    pub shown: Vec<Otherwise>,
     pub steps: Steps,
 }
 
 // Opaque to callers' proofs: one step, and not one for each field (docs/explanation/gate.md).
 impl Drop for Report {
     fn drop(self) {
-        let Report { told: _, steps: _ } = self;
+        let Report { shown: _, steps: _ } = self;
     }
 }
 
 impl Report {
     pub(crate) fn new(alloc: Global, steps: u64) -> Report
-        ensures { result.told.items ≡ [] }
+        ensures { result.shown.items ≡ [] }
     {
         Report {
-            told: Vec::new(alloc),
+            shown: Vec::new(alloc),
             steps: Steps::new(steps),
         }
     }
 
-    pub(crate) fn add(&mut self, told: Otherwise) -> Result<(), AllocError>
-        ensures { OnOk result (self.new.told.items ≡ self.old.told.items ++ (told ∷ [])) }
+    pub(crate) fn add(&mut self, shown: Otherwise) -> Result<(), AllocError>
+        ensures { OnOk result (self.new.shown.items ≡ self.old.shown.items ++ (shown ∷ [])) }
     {
-        self.told.push(told)?;
+        self.shown.push(shown)?;
         Ok(())
     }
 
-    pub(crate) fn into_told(self) -> Vec<Otherwise>
-        ensures { result ≡ self.told }
+    pub(crate) fn into_shown(self) -> Vec<Otherwise>
+        ensures { result ≡ self.shown }
     {
-        let Report { told, steps: _ } = self;
-        told
+        let Report { shown, steps: _ } = self;
+        shown
     }
 }

@@ -20,14 +20,14 @@ use Rattle.mq_plan.specs.declared.fault.Side.TheVariants.{Left, Right}
 
 -- if there is a fault, it is none of memory
 record IsOwn (fault : Option PlanKind) : Type 0 where
-  told : (kind : PlanKind) → fault ≡ Some kind → kind ≢ kinds.Memory
+  shown : (kind : PlanKind) → fault ≡ Some kind → kind ≢ kinds.Memory
 
 no_fault : IsOwn None
-no_fault = record { told = λ kind e. absurd (cc) }
+no_fault = record { shown = λ kind e. absurd (cc) }
 
 a_fault : (kind : PlanKind) → kind ≢ kinds.Memory → IsOwn (Some kind)
 a_fault kind own =
-    record { told = λ other e m. own (let same : kind ≡ other = cc in same ∙ m) }
+    record { shown = λ other e m. own (let same : kind ≡ other = cc in same ∙ m) }
 
 chosen : (b : Bool) (x y : Option PlanKind) → IsOwn x → IsOwn y → IsOwn (cond b x y)
 chosen true x y h k = h
@@ -116,8 +116,8 @@ own_faults n (l ∷ ls) fault e =
         → slice_get (cons_option (option_map (λ kind. record { line = n; kind = kind }) o) more) 0
         ≡ Some fault → fault.kind ≢ kinds.Memory
     at None own next f = next f
-    at (Some kind) own next f = own.told fault.kind
-        (ap (option_map (λ (told : PlanFault). told.kind)) f)
+    at (Some kind) own next f = own.shown fault.kind
+        (ap (option_map (λ (shown : PlanFault). shown.kind)) f)
 
 -- the first of a text's faults
 pub fault_is_own : (ls : List (List ℕ)) (fault : PlanFault)

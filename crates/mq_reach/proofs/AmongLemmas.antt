@@ -1,4 +1,4 @@
--- What is told of some subscriptions, among more of them.
+-- What is shown of some subscriptions, among more of them.
 use Rattle.std.proofs.Common.{◌≡◌, ℕ, List, [], ◌∷◌, ◌++◌, map, Option, sym, ap, subst, ◌∙◌}
 use Rattle.std.specs.Option.{option_to_list}
 use Rattle.std.proofs.lemmas.Bool.{or_left, or_right}

@@ -109,7 +109,7 @@ passed list request s sessions moment lasts apart none = record {
         (kept-all list w request (subscriptions lines) s.tracked (λ t. t) e
         (λ client own k. user-kept w request client own e k (apart client))
         (λ t. sym (ap (λ b. closed_if b t)
-        (ap (λ b. is_open t.state && b) (lasts w t.told.client t.told.filter)
+        (ap (λ b. is_open t.state && b) (lasts w t.shown.client t.shown.filter)
         ∙ and-false (is_open t.state))))
         (all_sound lines) are)
 
@@ -184,9 +184,9 @@ disconnect-stays list id old new act lasts sessions clock tracked counts =
     })
     (tracked ∙ sym (map-same old.tracked))
     (λ w is t. sym (ap (λ b. closed_if b t)
-    (ap (λ b. is_open t.state && (same_text t.told.client id && not b))
+    (ap (λ b. is_open t.state && (same_text t.shown.client id && not b))
     (sym (outlives-is old id w is) ∙ lasts)
-    ∙ ap (λ b. is_open t.state && b) (and-false (same_text t.told.client id))
+    ∙ ap (λ b. is_open t.state && b) (and-false (same_text t.shown.client id))
     ∙ and-false (is_open t.state))))
     (λ w is client own e. user-kept w (Disconnect id) client own (disconnect-taken id old act w is)
     e refl) counts
@@ -209,9 +209,9 @@ disconnect-ends list id old new act ends sessions clock tracked counts =
     })
     tracked
     (λ w is t. sym (ap (λ b. closed_if b t)
-    (ap (λ b. is_open t.state && (same_text t.told.client id && not b))
+    (ap (λ b. is_open t.state && (same_text t.shown.client id && not b))
     (sym (outlives-is old id w is) ∙ ends)
-    ∙ ap (λ b. is_open t.state && b) (and_true (same_text t.told.client id)))))
+    ∙ ap (λ b. is_open t.state && b) (and_true (same_text t.shown.client id)))))
     (λ w is client own e. user-kept w (Disconnect id) client own (disconnect-taken id old act w is)
     e refl) counts
 
@@ -239,7 +239,7 @@ unsubscribe-taken list id text old new act sessions clock tracked counts =
     })
     tracked
     (λ w is t. ap (λ b. closed_if b t)
-    (and_assoc (is_open t.state) (same_text t.told.client id) (same_text t.told.filter text)))
+    (and_assoc (is_open t.state) (same_text t.shown.client id) (same_text t.shown.filter text)))
     (λ w is client own e. user-kept w (Unsubscribe id text) client own (takes w is) e refl) counts
   where
     takes : Takes (Unsubscribe id text) old

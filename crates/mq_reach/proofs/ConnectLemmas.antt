@@ -24,7 +24,7 @@ use Rattle.mq_reach.specs.Search.{Applies, AreTracked, IsTracked, IsWorldOf}
 use Rattle.mq_reach.specs.Subscriptions.{Kept, commands_of, is_taken, stays, subscriptions}
 use Rattle.mq_reach.specs.Subscriptions.{world_of}
 use Rattle.mq_reach.specs.Subscriptions as spec
-use Rattle.mq_reach.specs.Vain.{IsReached, IsVain}
+use Rattle.mq_reach.specs.Unreached.{IsReached, IsUnreached}
 use Rattle.mq_reach.specs.Tracked.{Asks, TrackedSubscription, closed_all, closed_if, is_open}
 use Rattle.mq_reach.specs.Tracked.{is_open_of}
 use Rattle.mq_reach.specs.declared.question.SearchFault.{SearchFault}
@@ -91,9 +91,9 @@ module _ (list : AccessList) (id : Text) (user : Option Text) (clean : Bool) (in
   connect-ends new e sessions clock tracked counts =
       Applies-ends list request old new (closed_all id) refl takes
       (connected-world new sessions clock) tracked
-      (λ w is t. sym (ap (λ b. closed_if (is_open t.state && (same_text t.told.client id && not b))
+      (λ w is t. sym (ap (λ b. closed_if (is_open t.state && (same_text t.shown.client id && not b))
       t) (sym (resumes-is w is) ∙ e)
-      ∙ ap (λ b. closed_if (is_open t.state && b) t) (and_true (same_text t.told.client id))))
+      ∙ ap (λ b. closed_if (is_open t.state && b) t) (and_true (same_text t.shown.client id))))
       (λ w is client own k. user-kept w request client own (takes w is) k
       (sym (ap (λ b. same_text client id && not b) (sym (resumes-is w is) ∙ e)
       ∙ and_true (same_text client id)) ∙ k)) counts
@@ -112,7 +112,7 @@ module _ (list : AccessList) (id : Text) (user : Option Text) (clean : Bool) (in
       Applies-ends list request old new (λ t. t) refl takes (connected-world new sessions clock)
       (tracked ∙ sym (map-same old.tracked))
       (λ w is t. sym (ap (λ b. closed_if (is_open t.state && b) t)
-      (lasts w is e t.told.client t.told.filter)
+      (lasts w is e t.shown.client t.shown.filter)
       ∙ ap (λ b. closed_if b t) (and-false (is_open t.state))))
       (λ w is client own k. pick (same_text client id)
       (λ t. (let same : client ≡ id = same_text-is client id t in
@@ -165,19 +165,19 @@ connect-taken list id user clean interval old new valid connects sessions clock 
     connect-any list id user clean interval old valid new (resumes old.sessions id clean) refl
     connects sessions clock counts
 
--- ## What is told where a question is too long
+-- ## What is shown where a question is too long
 
 -- a subscription that is asked about is too long with one more user name
 long_more : (list : AccessList) (line : ℕ) (kept : Kept) (user : Option Text)
-    → (kept.told.line == line) ≡ true
-    → is_short_question list kept.told user ≡ false
+    → (kept.shown.line == line) ≡ true
+    → is_short_question list kept.shown user ≡ false
     → is_long_at list line (record kept { users = kept.users ++ user ∷ [] }) ≡ true
 long_more list line kept user same long =
-    and_from (kept.told.line == line)
-    (not (list_all (is_short_question list kept.told) (kept.users ++ user ∷ []))) same
-    (ap not (list_all-append (is_short_question list kept.told) kept.users (user ∷ [])
-    ∙ ap (λ b. list_all (is_short_question list kept.told) kept.users && (b && true)) long
-    ∙ and-false (list_all (is_short_question list kept.told) kept.users)))
+    and_from (kept.shown.line == line)
+    (not (list_all (is_short_question list kept.shown) (kept.users ++ user ∷ []))) same
+    (ap not (list_all-append (is_short_question list kept.shown) kept.users (user ∷ [])
+    ∙ ap (λ b. list_all (is_short_question list kept.shown) kept.users && (b && true)) long
+    ∙ and-false (list_all (is_short_question list kept.shown) kept.users)))
 
 module _ (list : AccessList) (w : World) (request : Request) (client : Text) (user : Option Text)
     (taken : is_taken w request ≡ true)
@@ -189,28 +189,28 @@ module _ (list : AccessList) (w : World) (request : Request) (client : Text) (us
       → is_long_at list line (grown w (Some request) kept) ≡ true
   one_long line kept t sound is long =
       let front = and_parts (is_open_of client t)
-      ((t.told.line == line) && not (is_short_question list t.told user)) long in
-      let back = and_parts (t.told.line == line) (not (is_short_question list t.told user))
+      ((t.shown.line == line) && not (is_short_question list t.shown user)) long in
+      let back = and_parts (t.shown.line == line) (not (is_short_question list t.shown user))
       front.1 in
-      let both = and_parts (is_open t.state) (same_text t.told.client client) front.0 in
-      let its : kept.told.client ≡ client =
+      let both = and_parts (is_open t.state) (same_text t.shown.client client) front.0 in
+      let its : kept.shown.client ≡ client =
       sym (ap (λ (s : spec.Subscription). s.client) is.0)
-      ∙ same_text-is t.told.client client both.1 in
+      ∙ same_text-is t.shown.client client both.1 in
       let still : kept.is_open ≡ true = opened kept.is_open is.1 both.0 in
       subst (λ (k : Kept). is_long_at list line k ≡ true)
       (sym (grown-open w request kept
-      (ap (λ b. b && stays (key_of kept.told) w request) still
-      ∙ stays-taken kept.told w request taken sound.valid (sound.there still)
-      ∙ ap not (lasts kept.told.client kept.told.filter))))
-      (long_more list line kept (user_of (next w request).sessions kept.told.client)
+      (ap (λ b. b && stays (key_of kept.shown) w request) still
+      ∙ stays-taken kept.shown w request taken sound.valid (sound.there still)
+      ∙ ap not (lasts kept.shown.client kept.shown.filter))))
+      (long_more list line kept (user_of (next w request).sessions kept.shown.client)
       (ap (λ (s : spec.Subscription). s.line == line) (sym is.0) ∙ back.0)
-      (ap (is_short_question list kept.told)
+      (ap (is_short_question list kept.shown)
       (ap (λ (c : Text). user_of (next w request).sessions c) its ∙ its_user)
       ∙ ap (λ (s : spec.Subscription). is_short_question list s user) (sym is.0)
-      ∙ not-true (is_short_question list t.told user) back.1))
+      ∙ not-true (is_short_question list t.shown user) back.1))
     where
       opened : (b : Bool) → (((t.state ≡ Reached) × IsReached list kept)
-          ⊎ ((t.state ≡ (if b then Open else Closed)) × IsVain list kept))
+          ⊎ ((t.state ≡ (if b then Open else Closed)) × IsUnreached list kept))
           → is_open t.state ≡ true → b ≡ true
       opened true how still = refl
       opened false (inl h) still = absurd (true≢false (sym still ∙ ap is_open h.0))
@@ -245,7 +245,7 @@ module _ (list : AccessList) (w : World) (request : Request) (client : Text) (us
   fault_open all ts (search.Row line) sound are is = absurd is
   fault_open all ts (search.Subscription line) sound are is = some_long line all ts sound are is
 
--- what is told of a client that comes back is so
+-- what is shown of a client that comes back is so
 pub connect-fails : (list : AccessList) (id : Text) (user : Option Text) (clean : Bool)
     (interval : ℕ) (old : Search) (fault : SearchFault)
     → (is_client_id id && is_user_name user) ≡ true → resumes old.sessions id clean ≡ true

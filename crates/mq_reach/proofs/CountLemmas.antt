@@ -11,14 +11,14 @@ use Rattle.mq_jsonl.specs.Lines.{command_in}
 use Rattle.mq_jsonl.specs.Reading.{reading}
 use Rattle.mq_jsonl.specs.declared.fault.LineFault.{LineFault}
 use Rattle.mq_reach.specs.Counts.{counted}
-use Rattle.mq_reach.specs.Search.{AreCounted, IsWorldOf, kind_of, told_by}
+use Rattle.mq_reach.specs.Search.{AreCounted, IsWorldOf, kind_of, shown_by}
 use Rattle.mq_reach.specs.Subscriptions.{Kept, commands_of, fault_at, faulty_from, faulty_lines}
 use Rattle.mq_reach.specs.Subscriptions.{made_by, subscriptions, world_of}
 use Rattle.mq_reach.specs.Subscriptions as spec
 use Rattle.mq_reach.specs.declared.counts.Counts.{Counts}
 use Rattle.mq_reach.specs.declared.search.Search.{Search}
 use Rattle.mq_reach.proofs.GrownLemmas.{commands_of-push, grown, subscriptions-push}
-use Rattle.mq_reach.proofs.StepLemmas.{made-told, makes_at}
+use Rattle.mq_reach.proofs.StepLemmas.{made-shown, makes_at}
 
 -- ## Faulty lines
 
@@ -119,25 +119,25 @@ counted_line (Err fault) make none n before all faulty c are = record {
 
 -- ## Of a script
 
--- what is told of what a line makes
-abbrev pub told_in : ℕ → List Session → Option Request → Option spec.Subscription
-told_in line sessions command = option_and_then (told_by line sessions) command
+-- what is shown of what a line makes
+abbrev pub shown_in : ℕ → List Session → Option Request → Option spec.Subscription
+shown_in line sessions command = option_and_then (shown_by line sessions) command
 
 as_many : (o : Option Kept)
-    → length (option_to_list (option_map (λ (k : Kept). k.told) o)) ≡ length (option_to_list o)
+    → length (option_to_list (option_map (λ (k : Kept). k.shown) o)) ≡ length (option_to_list o)
 as_many None = refl
 as_many (Some kept) = refl
 
--- as many are told as it makes
-many-told : (lines : List (List ℕ)) (s : Search) (command : Option Request)
+-- as many are shown as it makes
+many-shown : (lines : List (List ℕ)) (s : Search) (command : Option Request)
     → IsWorldOf (world_of lines) s → s.counts.lines ≡ length lines
-    → length (option_to_list (told_in (s.counts.lines + 1) s.sessions command))
+    → length (option_to_list (shown_in (s.counts.lines + 1) s.sessions command))
     ≡ length (makes_at lines command)
-many-told lines s None is count = refl
-many-told lines s (Some request) is count =
-    ap (λ (n : ℕ). length (option_to_list (told_by (n + 1) s.sessions request))) count
+many-shown lines s None is count = refl
+many-shown lines s (Some request) is count =
+    ap (λ (n : ℕ). length (option_to_list (shown_by (n + 1) s.sessions request))) count
     ∙ sym (ap (λ o. length (option_to_list o))
-    (made-told (length lines + 1) (world_of lines) s.sessions request is.sessions))
+    (made-shown (length lines + 1) (world_of lines) s.sessions request is.sessions))
     ∙ as_many (made_by (length lines + 1) (world_of lines) request [])
 
 many-push : (lines : List (List ℕ)) (line : List ℕ)
@@ -154,7 +154,7 @@ many-push lines line =
 pub counts-push : (lines : List (List ℕ)) (line : List ℕ) (s : Search)
     → IsWorldOf (world_of lines) s → AreCounted lines s.counts
     → AreCounted (lines ++ line ∷ []) (counted s.counts (kind_of
-    (told_in (s.counts.lines + 1) s.sessions (command_in (reading line))) (reading line)))
+    (shown_in (s.counts.lines + 1) s.sessions (command_in (reading line))) (reading line)))
 counts-push lines line s is counts =
     let c : Option Request = command_in (reading line) in
     let before : Counts_are (length lines) (commands_of lines) (length (subscriptions lines))
@@ -165,14 +165,14 @@ counts-push lines line s is counts =
       faulty_count = counts.faulty;
       first_faulty = counts.first_faulty;
     } in
-    let after = counted_line (reading line) (told_in (s.counts.lines + 1) s.sessions) refl
+    let after = counted_line (reading line) (shown_in (s.counts.lines + 1) s.sessions) refl
     (length lines) (commands_of lines) (length (subscriptions lines)) (faulty_lines lines) s.counts
     before in
     record {
       lines = after.lines ∙ sym (length-append lines (line ∷ []));
       commands = after.commands ∙ sym (ap length (commands_of-push lines line));
       subscribed = after.subscriptions
-          ∙ ap (λ (n : ℕ). length (subscriptions lines) + n) (many-told lines s c is counts.lines)
+          ∙ ap (λ (n : ℕ). length (subscriptions lines) + n) (many-shown lines s c is counts.lines)
           ∙ sym (many-push lines line);
       faulty = after.faulty_count ∙ sym (ap length (faulty_lines-push lines line));
       first_faulty = after.first_faulty

@@ -89,15 +89,15 @@ closed-more moment id sessions (t ∷ ts) ended =
         let left : List Session = filter (λ s. not (has_id id s)) sessions in
         let among : List Session → Text → Bool = λ ss client.
         is_among (filter (has_ended moment) ss) client in
-        pick (same_text t.told.client id)
+        pick (same_text t.shown.client id)
         (λ e. ap (λ b. closed_ended moment left (closed_if (is_open t.state && b) t)) e
-        ∙ twice t (among left (closed_if (is_open t.state && true) t).told.client)
+        ∙ twice t (among left (closed_if (is_open t.state && true) t).shown.client)
         ∙ ap (λ b. closed_if (is_open t.state && b) t)
-        (sym (ap (among sessions) (same_text-is t.told.client id e) ∙ ended)))
+        (sym (ap (among sessions) (same_text-is t.shown.client id e) ∙ ended)))
         (λ e. ap (λ b. closed_ended moment left (closed_if b t))
         (ap (λ b. is_open t.state && b) e ∙ and-false (is_open t.state))
         ∙ ap (λ b. closed_if (is_open t.state && b) t)
-        (among-without moment id t.told.client sessions e))
+        (among-without moment id t.shown.client sessions e))
 
 among-all : (moment : ℕ) (id : Text) (sessions : List Session)
     → is_among (filter (has_ended moment) sessions) id ≡ true → is_among sessions id ≡ true
@@ -148,7 +148,7 @@ pub none-closed : (moment : ℕ) (sessions : List Session) (ts : List TrackedSub
     → map (closed_ended moment sessions) ts ≡ ts
 none-closed moment sessions [] none = refl
 none-closed moment sessions (t ∷ ts) none =
-    (λ i. (ap (λ (l : List Session). closed_if (is_open t.state && is_among l t.told.client) t)
+    (λ i. (ap (λ (l : List Session). closed_if (is_open t.state && is_among l t.shown.client) t)
     (filter-none (has_ended moment) sessions (none-any (has_ended moment) sessions none))
     ∙ ap (λ b. closed_if b t) (and-false (is_open t.state))) i
     ∷ none-closed moment sessions ts none i)
@@ -193,13 +193,13 @@ advance-taken list seconds old new near moment sessions tracked counts =
     })
     tracked
     (λ w is t. ap (λ b. closed_if (is_open t.state && b) t)
-    (ap (λ (ss : List Session). is_among (filter (has_ended new.clock.moment) ss) t.told.client)
+    (ap (λ (ss : List Session). is_among (filter (has_ended new.clock.moment) ss) t.shown.client)
     is.sessions
-    ∙ ap (λ (ss : List Session). is_among ss t.told.client)
+    ∙ ap (λ (ss : List Session). is_among ss t.shown.client)
     (all_ended-unqueued new.clock.moment w.sessions)
     ∙ list_any-map (λ (session : Session). record session { waiting = [] })
-    (has_id t.told.client) (filter (has_ended new.clock.moment) w.sessions)
-    ∙ ap (λ (m : ℕ). is_among (filter (has_ended m) w.sessions) t.told.client) (now w is)))
+    (has_id t.shown.client) (filter (has_ended new.clock.moment) w.sessions)
+    ∙ ap (λ (m : ℕ). is_among (filter (has_ended m) w.sessions) t.shown.client) (now w is)))
     (λ w is client own e. user-kept w (Advance seconds) client own (takes w is) e refl) counts
   where
     now : (w : World) → IsWorldOf w old → new.clock.moment ≡ w.moment + seconds

@@ -1,4 +1,4 @@
--- What is told of a script that isn't searched to its end.
+-- What is shown of a script that isn't searched to its end.
 use Rattle.std.proofs.Common.{◌≡◌, ℕ, ◌-◌, ◌==◌, ◌&&◌, ◌||◌, Bool, true, false, cond, not, List, []}
 use Rattle.std.proofs.Common.{◌∷◌, ◌++◌, Option, Some, None, length, map, take, refl, sym, ap, subst}
 use Rattle.std.proofs.Common.{◌∙◌, append_assoc, append-nil, inl, inr}
@@ -43,13 +43,13 @@ grown-long : (list : AccessList) (line : ℕ) (w : World) (command : Option Requ
     → is_long_at list line one ≡ true → is_long_at list line (grown w command one) ≡ true
 grown-long list line w None one long = long
 grown-long list line w (Some request) one long =
-    let short : Option Text → Bool = is_short_question list one.told in
-    let user : Option Text = user_of (next w request).sessions one.told.client in
-    let both = and_parts (one.told.line == line) (not (list_all short one.users)) long in
-    elim (one.is_open && stays (key_of one.told) w request) as (λ b. is_long_at list line
+    let short : Option Text → Bool = is_short_question list one.shown in
+    let user : Option Text = user_of (next w request).sessions one.shown.client in
+    let both = and_parts (one.shown.line == line) (not (list_all short one.users)) long in
+    elim (one.is_open && stays (key_of one.shown) w request) as (λ b. is_long_at list line
     (cond b (record one { users = one.users ++ user ∷ [] })
     (record one { is_open = false })) ≡ true) [
-      | true ↦ and_from (one.told.line == line)
+      | true ↦ and_from (one.shown.line == line)
           (not (list_all short (one.users ++ user ∷ []))) both.0
           (ap not (list_all-append short one.users (user ∷ [])
           ∙ ap (λ b. b && list_all short (user ∷ []))
@@ -92,7 +92,7 @@ more_fault list xs (y ∷ ys) fault is =
 
 -- ## Of bytes
 
--- lack of memory may be told of any bytes
+-- lack of memory may be shown of any bytes
 pub FailsIn-memory : (list : AccessList) (r : Reading) (bytes : List ℕ)
     → FailsIn list r bytes search.Memory
 unfolding FailsIn
@@ -171,7 +171,7 @@ read_fault rules rows r given fault holds fails =
     script_fault rules rows given fault (more_fault (list_by rules (row_views rows))
     (whole_lines given) (piece_line (last_piece given)) fault (fails [] holds))
 
--- where reading began with nothing read, what it stops with may be told of the script
+-- where reading began with nothing read, what it stops with may be shown of the script
 pub stopped : (rules : Rules) (rows : List Row) (list : AccessList) (r : Reading)
     (before after : Option (List ℕ)) (fault : ScriptFault)
     → list ≡ list_by rules (row_views rows) → HoldsScript list [] r

@@ -231,7 +231,7 @@ filled-same p r no_grants no_denies grants_of first denies granting own denying 
 
 -- ## The limit
 
--- what is told of one of some rows is told of them
+-- what is shown of one of some rows is shown of them
 pub one-fault : (client : List ℕ) (user : Option (List ℕ)) (row : AclRow) (rows : List AclRow)
     (fault : ReachFault) → Contains rows row → IsFillFault client user (row ∷ []) fault
     → IsFillFault client user rows fault
@@ -248,14 +248,14 @@ one-fault client user row rows reach.Pattern has is =
     one false e = refl
 
 -- and of what is asked of them
-pub fill-told : (client : List ℕ) (user : Option (List ℕ)) (filter : List ℕ) (rows : List AclRow)
+pub fill-shown : (client : List ℕ) (user : Option (List ℕ)) (filter : List ℕ) (rows : List AclRow)
     (fault : ReachFault) → IsFillFault client user rows fault
     → IsPatternFault client user filter rows fault
-fill-told client user filter rows reach.Memory is = tt
-fill-told client user filter rows reach.Client is = absurd is
-fill-told client user filter rows reach.User is = absurd is
-fill-told client user filter rows reach.Filter is = absurd is
-fill-told client user filter rows reach.Pattern is = is
+fill-shown client user filter rows reach.Memory is = tt
+fill-shown client user filter rows reach.Client is = absurd is
+fill-shown client user filter rows reach.User is = absurd is
+fill-shown client user filter rows reach.Filter is = absurd is
+fill-shown client user filter rows reach.Pattern is = is
 
 -- filled rows keep to the limit, unless the user name is too long
 pub user-long : (user : Option (List ℕ)) (rows : List Row) (line : ℕ)
@@ -289,15 +289,15 @@ filled-short user (row ∷ rows) filled =
     (let first : IsFilled user row = All-head (IsFilled user) row rows filled in first.short)
     (filled-short user rows (All-tail (IsFilled user) row rows filled))
 
--- what is told of the limits is told of what is asked of filled rows
-pub limit-told : (client : List ℕ) (user : Option (List ℕ)) (own : List ℕ)
+-- what is shown of the limits is shown of what is asked of filled rows
+pub limit-shown : (client : List ℕ) (user : Option (List ℕ)) (own : List ℕ)
     (rows grants_of : List AclRow) (row grant : AclRow) (fault : LimitFault) → row.filter ≡ own
     → All (IsFilled user) grants_of → Contains grants_of grant
     → IsLimitFault client user (row ∷ grant ∷ []) fault
     → IsPatternFault client user own rows (reach_fault fault)
-limit-told client user own rows grants_of row grant limit.Memory same filled has is = tt
-limit-told client user own rows grants_of row grant limit.Client same filled has is = is
-limit-told client user own rows grants_of row grant limit.User same filled has is = is
-limit-told client user own rows grants_of row grant limit.Row same filled has is =
+limit-shown client user own rows grants_of row grant limit.Memory same filled has is = tt
+limit-shown client user own rows grants_of row grant limit.Client same filled has is = is
+limit-shown client user own rows grants_of row grant limit.User same filled has is = is
+limit-shown client user own rows grants_of row grant limit.Row same filled has is =
     ap has_short_levels (sym same)
     ∙ filter-long grants_of row grant (filled-short user grants_of filled) has is

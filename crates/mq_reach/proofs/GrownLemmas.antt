@@ -74,28 +74,28 @@ stays-options client text options w Stat = refl
 abbrev pub grown : World → Option Request → Kept → Kept
 grown w None kept = kept
 grown w (Some request) kept =
-    if kept.is_open && stays (key_of kept.told) w request
+    if kept.is_open && stays (key_of kept.shown) w request
     then record kept {
-      users = kept.users ++ user_of (next w request).sessions kept.told.client ∷ [];
+      users = kept.users ++ user_of (next w request).sessions kept.shown.client ∷ [];
     }
     else record kept { is_open = false }
 
 abbrev kept_of : spec.Subscription → List (Option Text) → Bool → Kept
-kept_of told users is_open = record { told = told; users = users; is_open = is_open }
+kept_of shown users is_open = record { shown = shown; users = users; is_open = is_open }
 
-shape : (told : spec.Subscription) (users : List (Option Text)) (user : Option Text) (a b : Bool)
-    → kept_of told (users ++ cond (a && b) (user ∷ []) []) (a && b)
-    ≡ cond (a && b) (kept_of told (users ++ user ∷ []) a) (kept_of told users false)
-shape told users user true true = refl
-shape told users user true false =
-    ap (λ (l : List (Option Text)). kept_of told l false) (append-nil users)
-shape told users user false b =
-    ap (λ (l : List (Option Text)). kept_of told l false) (append-nil users)
+shape : (shown : spec.Subscription) (users : List (Option Text)) (user : Option Text) (a b : Bool)
+    → kept_of shown (users ++ cond (a && b) (user ∷ []) []) (a && b)
+    ≡ cond (a && b) (kept_of shown (users ++ user ∷ []) a) (kept_of shown users false)
+shape shown users user true true = refl
+shape shown users user true false =
+    ap (λ (l : List (Option Text)). kept_of shown l false) (append-nil users)
+shape shown users user false b =
+    ap (λ (l : List (Option Text)). kept_of shown l false) (append-nil users)
 
 -- what the subscribe makes, with the commands behind it
 abbrev made : ℕ → World → Text → Text → SubscriptionOptions → List Request → Kept
 made line w client text options later = record {
-  told = record { line = line; client = client; user = user_of w.sessions client; filter = text };
+  shown = record { line = line; client = client; user = user_of w.sessions client; filter = text };
   users = users_from (subscription_of client text options)
       (next w (Subscribe client text options)) later;
   is_open = stays_through (subscription_of client text options)
@@ -111,7 +111,7 @@ made-push line w client text options later r =
     let s : Subscription = subscription_of client text options in
     let first : World = next w (Subscribe client text options) in
     let last : World = replay first later in
-    let told : spec.Subscription = record {
+    let shown : spec.Subscription = record {
       line = line;
       client = client;
       user = user_of w.sessions client;
@@ -119,10 +119,10 @@ made-push line w client text options later r =
     } in
     let user : Option Text = user_of (next last r).sessions client in
     let a : Bool = stays_through s first later in
-    (λ i. kept_of told (users_from-push s first later r i) (stays_through-push s first later r i))
-    ∙ shape told (users_from s first later) user a (stays s last r)
-    ∙ ap (λ b. cond (a && b) (kept_of told (users_from s first later ++ user ∷ []) a)
-    (kept_of told (users_from s first later) false))
+    (λ i. kept_of shown (users_from-push s first later r i) (stays_through-push s first later r i))
+    ∙ shape shown (users_from s first later) user a (stays s last r)
+    ∙ ap (λ b. cond (a && b) (kept_of shown (users_from s first later ++ user ∷ []) a)
+    (kept_of shown (users_from s first later) false))
     (stays-options client text options last r)
 
 made_by-push : (line : ℕ) (w : World) (q : Request) (later : List Request) (r : Request)
@@ -244,9 +244,9 @@ subscriptions-push lines line = from-push 0 (length lines + 1) empty_world lines
 -- the text is a subscription; and while its session keeps it, it is among the world's rows, and the client's user name is
 -- among those that it had
 pub record IsSound (w : World) (kept : Kept) : Type 0 where
-  pub valid : is_subscription kept.told.filter ≡ true
-  pub there : kept.is_open ≡ true → is_there (key_of kept.told) w ≡ true
-  pub current : kept.is_open ≡ true → Contains kept.users (user_of w.sessions kept.told.client)
+  pub valid : is_subscription kept.shown.filter ≡ true
+  pub there : kept.is_open ≡ true → is_there (key_of kept.shown) w ≡ true
+  pub current : kept.is_open ≡ true → Contains kept.users (user_of w.sessions kept.shown.client)
 
 through-there : (s : Subscription) (w : World) (rs : List Request) → is_there s w ≡ true
     → stays_through s w rs ≡ true → is_there s (replay w rs) ≡ true

@@ -38,7 +38,7 @@ any_options = record {
 }
 
 abbrev pub key_of : spec.Subscription → Subscription
-key_of told = subscription_of told.client told.filter any_options
+key_of shown = subscription_of shown.client shown.filter any_options
 
 pub key_parts : (a b : Subscription) → same_key a b ≡ true
     → (b.client ≡ a.client) × (b.share ≡ a.share) × (b.filter ≡ a.filter)
@@ -103,27 +103,27 @@ parts-same a b left right = both_ways _ _
     ∙ same_text-itself (filter_part a))))
 
 -- it has the key of a text where it is that text
-pub key-is : (told : spec.Subscription) (client text : Text) → is_subscription told.filter ≡ true
+pub key-is : (shown : spec.Subscription) (client text : Text) → is_subscription shown.filter ≡ true
     → is_subscription text ≡ true
-    → has_key client (share_of text) (filter_part text) (key_of told)
-    ≡ (same_text told.client client && same_text told.filter text)
-key-is told client text valid right =
-    and_assoc (same_text told.client client)
-    (same_share (share_of told.filter) (share_of text))
-    (same_text (filter_part told.filter) (filter_part text))
-    ∙ ap (λ b. same_text told.client client && b) (parts-same told.filter text valid right)
+    → has_key client (share_of text) (filter_part text) (key_of shown)
+    ≡ (same_text shown.client client && same_text shown.filter text)
+key-is shown client text valid right =
+    and_assoc (same_text shown.client client)
+    (same_share (share_of shown.filter) (share_of text))
+    (same_text (filter_part shown.filter) (filter_part text))
+    ∙ ap (λ b. same_text shown.client client && b) (parts-same shown.filter text valid right)
 
-pub made-is : (told : spec.Subscription) (client text : Text) (options : SubscriptionOptions)
-    → is_subscription told.filter ≡ true → is_subscription text ≡ true
-    → same_key (key_of told) (subscription_of client text options)
-    ≡ (same_text told.client client && same_text told.filter text)
-made-is told client text options valid right =
-    and_assoc (same_text client told.client)
-    (same_share (share_of text) (share_of told.filter))
-    (same_text (filter_part text) (filter_part told.filter))
-    ∙ ap (λ b. same_text client told.client && b) (parts-same text told.filter right valid)
-    ∙ ap (λ b. b && same_text text told.filter) (text_flip client told.client)
-    ∙ ap (λ b. same_text told.client client && b) (text_flip text told.filter)
+pub made-is : (shown : spec.Subscription) (client text : Text) (options : SubscriptionOptions)
+    → is_subscription shown.filter ≡ true → is_subscription text ≡ true
+    → same_key (key_of shown) (subscription_of client text options)
+    ≡ (same_text shown.client client && same_text shown.filter text)
+made-is shown client text options valid right =
+    and_assoc (same_text client shown.client)
+    (same_share (share_of text) (share_of shown.filter))
+    (same_text (filter_part text) (filter_part shown.filter))
+    ∙ ap (λ b. same_text client shown.client && b) (parts-same text shown.filter right valid)
+    ∙ ap (λ b. b && same_text text shown.filter) (text_flip client shown.client)
+    ∙ ap (λ b. same_text shown.client client && b) (text_flip text shown.filter)
 
 -- ## Rows with a key
 

@@ -53,23 +53,23 @@ closes_all-map p (t ∷ ts) (u ∷ us) z = (λ i. one (p t) z.0 i ∷ closes_all
 
 -- what becomes of one is of the same subscription
 abbrev pub Keeps : Relation → Type 0
-Keeps R = (t u : TrackedSubscription) → R t u → u.told ≡ t.told
+Keeps R = (t u : TrackedSubscription) → R t u → u.shown ≡ t.shown
 
 pub Closes-keeps : (filter : Option Text) → Keeps (Closes filter)
 Closes-keeps filter t u e =
-    ap (λ (v : TrackedSubscription). v.told) e ∙ closed (is_to filter t)
+    ap (λ (v : TrackedSubscription). v.shown) e ∙ closed (is_to filter t)
   where
-    closed : (b : Bool) → (closed_if b t).told ≡ t.told
+    closed : (b : Bool) → (closed_if b t).shown ≡ t.shown
     closed true = refl
     closed false = refl
 
 pub IsAsked-keeps : (list : AccessList) (user : Option Text) → Keeps (IsAsked list user)
-IsAsked-keeps list user t u (inl h) = ap (λ (v : TrackedSubscription). v.told) h.0
-IsAsked-keeps list user t u (inr h) = ap (λ (v : TrackedSubscription). v.told) h.0
+IsAsked-keeps list user t u (inl h) = ap (λ (v : TrackedSubscription). v.shown) h.0
+IsAsked-keeps list user t u (inr h) = ap (λ (v : TrackedSubscription). v.shown) h.0
 
 its_client : (client : Text) (t : TrackedSubscription) → is_open_of client t ≡ true
-    → same_text t.told.client client ≡ true
-its_client client t h = (and_parts (is_open t.state) (same_text t.told.client client) h).1
+    → same_text t.shown.client client ≡ true
+its_client client t h = (and_parts (is_open t.state) (same_text t.shown.client client) h).1
 
 -- of this client those are open that were, and still are
 open-its : (client : Text) (R : Relation) → Keeps R → (t u : TrackedSubscription)
@@ -94,9 +94,9 @@ open-other : (client other : Text) (R : Relation) → Keeps R → same_text clie
     → is_open_of other u ≡ is_open_of other t
 open-other client other R keeps apart t u w =
     pick (is_open_of client t)
-    (λ e. (let its : t.told.client ≡ client =
-    same_text-is t.told.client client (its_client client t e) in
-    let none : same_text t.told.client other ≡ false =
+    (λ e. (let its : t.shown.client ≡ client =
+    same_text-is t.shown.client client (its_client client t e) in
+    let none : same_text t.shown.client other ≡ false =
     ap (λ c. same_text c other) its ∙ apart in
     ap (λ (s : spec.Subscription). is_open u.state && same_text s.client other)
     (keeps t u (subst (λ b. MatchBool b (R t u) (u ≡ t)) e w))
@@ -171,10 +171,10 @@ places-push n m p (x ∷ ts) t e =
 pub indexed-push : (ts : Ts) (t : TrackedSubscription) (place : ℕ) (old new : Text → List ℕ)
     → place ≡ length ts → is_open t.state ≡ true
     → ((other : Text) → old other ≡ places_from 0 (is_open_of other) ts)
-    → ((other : Text) → new other ≡ old other ++ cond (same_text t.told.client other) (place ∷ []) [])
+    → ((other : Text) → new other ≡ old other ++ cond (same_text t.shown.client other) (place ∷ []) [])
     → (other : Text) → new other ≡ places_from 0 (is_open_of other) (ts ++ t ∷ [])
 indexed-push ts t place old new e still was now other =
-    now other ∙ ap (λ l. l ++ cond (same_text t.told.client other) (place ∷ []) []) (was other)
+    now other ∙ ap (λ l. l ++ cond (same_text t.shown.client other) (place ∷ []) []) (was other)
     ∙ sym (places-push 0 place (is_open_of other) ts t (omega arith)
     ∙ ap (λ b. places_from 0 (is_open_of other) ts
-    ++ cond (b && same_text t.told.client other) (place ∷ []) []) still)
+    ++ cond (b && same_text t.shown.client other) (place ∷ []) []) still)

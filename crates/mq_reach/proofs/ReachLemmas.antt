@@ -265,7 +265,7 @@ nothing_more p everyone own none = sym (ap (λ l. list_any p l || list_any p eve
 pub swapped : (a b : Bool) → ((false || a) || b) ≡ (b || a)
 swapped a b = or_comm a b
 
--- ## What is told
+-- ## What is shown
 
 pub no_items : {X : Type 0} (n : ℕ) (xs : List X) → n ≡ length xs → eqb n 0 ≡ true → xs ≡ []
 no_items n [] count none = refl
@@ -281,14 +281,14 @@ pub some_then : {X : Type 0} {P Q : X → Type 0} (o : Option X) → ((x : X) �
 some_then None f h = h
 some_then (Some x) f h = f x h
 
--- what is told of the limits is told of the question
-pub fault-told : (list : AccessList) (rows : List AclRow) (client : List ℕ)
+-- what is shown of the limits is shown of the question
+pub fault-shown : (list : AccessList) (rows : List AclRow) (client : List ℕ)
     (user : Option (List ℕ)) (own : List ℕ) (row grant : AclRow) (fault : LimitFault)
     → row.filter ≡ own → list_all (λ r. has_short_levels r.filter) rows ≡ true
     → Contains rows grant → IsLimitFault client user (row ∷ grant ∷ []) fault
     → IsReachFault list client user own (reach_fault fault)
-fault-told list rows client user own row grant limit.Memory same short has is = tt
-fault-told list rows client user own row grant limit.Client same short has is = is
-fault-told list rows client user own row grant limit.User same short has is = is
-fault-told list rows client user own row grant limit.Row same short has is =
+fault-shown list rows client user own row grant limit.Memory same short has is = tt
+fault-shown list rows client user own row grant limit.Client same short has is = is
+fault-shown list rows client user own row grant limit.User same short has is = is
+fault-shown list rows client user own row grant limit.Row same short has is =
     ap has_short_levels (sym same) ∙ filter-long rows row grant short has is

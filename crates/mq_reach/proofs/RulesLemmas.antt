@@ -217,7 +217,7 @@ module _ (rows : List AclRow) (client : List ℕ) (user : Option (List ℕ)) (ow
         ∙ or-true (passes (concerns client own name) denying granting);
   }
 
--- ## What is told
+-- ## What is shown
 
 short-known : (user own : Option (List ℕ)) → own ≡ known_user user → is_short_user own ≡ false
     → is_short_user user ≡ false
@@ -229,7 +229,7 @@ short-known (Some name) own known long = at (length name == 0) (sym (ap is_short
     at true e = absurd (true≢false e)
     at false e = e
 
--- what is told of the limits of a client whose user name isn't empty
+-- what is shown of the limits of a client whose user name isn't empty
 pub limit-reach : (list : AccessList) (client : List ℕ) (user own : Option (List ℕ))
     (filter_text : List ℕ) (fault : LimitFault) → own ≡ known_user user
     → IsReachFault list client own filter_text (reach_fault fault)

@@ -169,7 +169,7 @@ whole-piece list script r s holds some step =
 
 -- ## The reader
 
--- a reader that tells its bytes gave no more than those
+-- a reader that shows its bytes gave no more than those
 pub too_long : (a b : Option (List ℕ)) (limit : ℕ) (given : List ℕ) → Consumes a b given
     → limit < length given
     → IfSome a (λ bytes. limit < length bytes)

@@ -18,16 +18,16 @@ use Rattle.mq_reach.specs.Faults.{FailsBy, IsFaultAmong}
 use Rattle.mq_reach.specs.Search.{AreCounted, AreTracked, Applies, IsFound, IsSearched, IsWorldOf}
 use Rattle.mq_reach.specs.Search.{kind_of}
 use Rattle.mq_reach.specs.Subscriptions.{commands_of, subscriptions, world_of, world_then}
-use Rattle.mq_reach.specs.Tracked.{subscription_views, vain_of}
-use Rattle.mq_reach.specs.Vain.{AreVain}
+use Rattle.mq_reach.specs.Tracked.{subscription_views, unreached_of}
+use Rattle.mq_reach.specs.Unreached.{AreUnreached}
 use Rattle.mq_reach.specs.declared.counts.Counts.{Counts}
 use Rattle.mq_reach.specs.declared.counts.LineKind.{LineKind}
 use Rattle.mq_reach.specs.declared.question.SearchFault.{SearchFault}
 use Rattle.mq_reach.specs.declared.search.Findings.{Findings}
 use Rattle.mq_reach.specs.declared.search.Search.{Search}
-use Rattle.mq_reach.proofs.CountLemmas.{counts-push, told_in}
+use Rattle.mq_reach.proofs.CountLemmas.{counts-push, shown_in}
 use Rattle.mq_reach.proofs.GrownLemmas.{world_of-push}
-use Rattle.mq_reach.proofs.TrackLemmas.{AreVain-told}
+use Rattle.mq_reach.proofs.TrackLemmas.{AreUnreached-shown}
 
 listed : (c : Option Request) → cons_option c [] ≡ option_to_list c
 listed None = refl
@@ -49,7 +49,7 @@ pub record CountsLine (old new : Search) (kind : LineKind) : Type 0 where
 pub IsSearched-push : (list : AccessList) (lines : List (List ℕ)) (line : List ℕ)
     (old mid new : Search) (kind : LineKind)
     → IsSearched list lines old → Applies list (command_in (reading line)) old mid
-    → kind ≡ kind_of (told_in (old.counts.lines + 1) old.sessions (command_in (reading line)))
+    → kind ≡ kind_of (shown_in (old.counts.lines + 1) old.sessions (command_in (reading line)))
     (reading line)
     → CountsLine mid new kind → IsSearched list (lines ++ line ∷ []) new
 IsSearched-push list lines line old mid new kind is applies kind_is line_counts =
@@ -71,20 +71,20 @@ IsSearched-push list lines line old mid new kind is applies kind_is line_counts 
           (counts-push lines line old is.is_world is.counts);
     }
 
--- what is told of a command is told of a line that says it
+-- what is shown of a command is shown of a line that says it
 pub line-fails : (list : AccessList) (lines : List (List ℕ)) (line : List ℕ) (s : Search)
     (command : Option Request) (fault : SearchFault) → command_in (reading line) ≡ command
     → FailsBy list command s fault → IsSearched list lines s
     → IsFaultAmong list (subscriptions (lines ++ line ∷ [])) fault
 line-fails list lines line s command fault e fails is = fails lines line (says line command e) is
 
--- what is told in the end
-pub IsFound-told : (list : AccessList) (lines : List (List ℕ)) (s : Search) (f : Findings)
-    → IsSearched list lines s → subscription_views f.vain.items ≡ vain_of s.tracked
+-- what is shown in the end
+pub IsFound-shown : (list : AccessList) (lines : List (List ℕ)) (s : Search) (f : Findings)
+    → IsSearched list lines s → subscription_views f.unreached.items ≡ unreached_of s.tracked
     → f.counts ≡ s.counts → IsFound list lines f
-IsFound-told list lines s f is vain counts = record {
-  vain = subst (AreVain list (subscriptions lines)) (sym vain)
-      (AreVain-told list (subscriptions lines) s.tracked is.tracked);
+IsFound-shown list lines s f is unreached counts = record {
+  unreached = subst (AreUnreached list (subscriptions lines)) (sym unreached)
+      (AreUnreached-shown list (subscriptions lines) s.tracked is.tracked);
   counts = subst (AreCounted lines) (sym counts) is.counts;
 }
 

@@ -166,50 +166,50 @@ stays-refused s w request h there =
     makes-refused Stat e = refl
 
 -- one that is taken leaves it unless it ends it
-pub stays-taken : (told : spec.Subscription) (w : World) (request : Request)
-    → is_taken w request ≡ true → is_subscription told.filter ≡ true
-    → is_there (key_of told) w ≡ true
-    → stays (key_of told) w request ≡ not (ends w request told.client told.filter)
+pub stays-taken : (shown : spec.Subscription) (w : World) (request : Request)
+    → is_taken w request ≡ true → is_subscription shown.filter ≡ true
+    → is_there (key_of shown) w ≡ true
+    → stays (key_of shown) w request ≡ not (ends w request shown.client shown.filter)
 unfolding after
-stays-taken told w (Connect id user clean interval) h valid there =
-    stays-rows (key_of told) w (Connect id user clean interval) h
-    ∙ left_rows (key_of told) id w.rows (resumes w.sessions id clean)
-    (sym (there-is (key_of told) w) ∙ there)
-stays-taken told w (Disconnect id) h valid there =
-    stays-rows (key_of told) w (Disconnect id) h
-    ∙ disconnected-rows (key_of told) w id (outlives w.sessions id)
-    (sym (there-is (key_of told) w) ∙ there)
-stays-taken told w (Subscribe id text options) h valid there =
-    let made : Bool = same_key (key_of told) (subscription_of id text options) in
+stays-taken shown w (Connect id user clean interval) h valid there =
+    stays-rows (key_of shown) w (Connect id user clean interval) h
+    ∙ left_rows (key_of shown) id w.rows (resumes w.sessions id clean)
+    (sym (there-is (key_of shown) w) ∙ there)
+stays-taken shown w (Disconnect id) h valid there =
+    stays-rows (key_of shown) w (Disconnect id) h
+    ∙ disconnected-rows (key_of shown) w id (outlives w.sessions id)
+    (sym (there-is (key_of shown) w) ∙ there)
+stays-taken shown w (Subscribe id text options) h valid there =
+    let made : Bool = same_key (key_of shown) (subscription_of id text options) in
     let row : Row = record {
       subscription = subscription_of id text options;
       stamp = kept_stamp w (subscription_of id text options);
     } in
-    stays-rows (key_of told) w (Subscribe id text options) h
-    ∙ ap (λ b. not (b && made) && has_row (key_of told) (with_row row_cmp row w.rows)) h
-    ∙ ap (λ b. not made && b) (has_row-with (key_of told) row w.rows
-    ∙ ap (λ b. b || made) (sym (there-is (key_of told) w) ∙ there))
+    stays-rows (key_of shown) w (Subscribe id text options) h
+    ∙ ap (λ b. not (b && made) && has_row (key_of shown) (with_row row_cmp row w.rows)) h
+    ∙ ap (λ b. not made && b) (has_row-with (key_of shown) row w.rows
+    ∙ ap (λ b. b || made) (sym (there-is (key_of shown) w) ∙ there))
     ∙ and_true (not made)
-    ∙ ap not (made-is told id text options valid (subscribe-valid w id text options h))
-stays-taken told w (Unsubscribe id text) h valid there =
-    stays-rows (key_of told) w (Unsubscribe id text) h
-    ∙ has_row-unsubscribed (key_of told) id text w.rows
-    ∙ ap (λ b. b && not (has_key id (share_of text) (filter_part text) (key_of told)))
-    (sym (there-is (key_of told) w) ∙ there)
-    ∙ ap not (key-is told id text valid (unsubscribe-valid w id text h))
-stays-taken told w (Publish m) h valid there =
-    stays-rows (key_of told) w (Publish m) h
-    ∙ any-restamped (key_of told) w.accepted (served_by w m) w.rows
-    ∙ sym (there-is (key_of told) w) ∙ there
-stays-taken told w (SetAcl text) h valid there =
-    stays-rows (key_of told) w (SetAcl text) h ∙ sym (there-is (key_of told) w) ∙ there
-stays-taken told w (Advance seconds) h valid there =
+    ∙ ap not (made-is shown id text options valid (subscribe-valid w id text options h))
+stays-taken shown w (Unsubscribe id text) h valid there =
+    stays-rows (key_of shown) w (Unsubscribe id text) h
+    ∙ has_row-unsubscribed (key_of shown) id text w.rows
+    ∙ ap (λ b. b && not (has_key id (share_of text) (filter_part text) (key_of shown)))
+    (sym (there-is (key_of shown) w) ∙ there)
+    ∙ ap not (key-is shown id text valid (unsubscribe-valid w id text h))
+stays-taken shown w (Publish m) h valid there =
+    stays-rows (key_of shown) w (Publish m) h
+    ∙ any-restamped (key_of shown) w.accepted (served_by w m) w.rows
+    ∙ sym (there-is (key_of shown) w) ∙ there
+stays-taken shown w (SetAcl text) h valid there =
+    stays-rows (key_of shown) w (SetAcl text) h ∙ sym (there-is (key_of shown) w) ∙ there
+stays-taken shown w (Advance seconds) h valid there =
     let ended : List Session = filter (has_ended (w.moment + seconds)) w.sessions in
-    stays-rows (key_of told) w (Advance seconds) h
-    ∙ any-kept (λ (row : Row). same_key (key_of told) row.subscription)
-    (λ row. not (is_among ended row.subscription.client)) (not (is_among ended told.client))
-    (λ row same. ap (λ c. not (is_among ended c)) (key_parts (key_of told) row.subscription
+    stays-rows (key_of shown) w (Advance seconds) h
+    ∙ any-kept (λ (row : Row). same_key (key_of shown) row.subscription)
+    (λ row. not (is_among ended row.subscription.client)) (not (is_among ended shown.client))
+    (λ row same. ap (λ c. not (is_among ended c)) (key_parts (key_of shown) row.subscription
     same).0) w.rows
-    ∙ ap (λ b. b && not (is_among ended told.client)) (sym (there-is (key_of told) w) ∙ there)
-stays-taken told w Stat h valid there =
-    stays-rows (key_of told) w Stat h ∙ sym (there-is (key_of told) w) ∙ there
+    ∙ ap (λ b. b && not (is_among ended shown.client)) (sym (there-is (key_of shown) w) ∙ there)
+stays-taken shown w Stat h valid there =
+    stays-rows (key_of shown) w Stat h ∙ sym (there-is (key_of shown) w) ∙ there

@@ -15,7 +15,7 @@ use Rattle.mq_world.specs.World.{Stat, Subscribe, Unsubscribe, World}
 use Rattle.mq_world.proofs.OrderLemmas.{same_text-is}
 use Rattle.mq_jsonl.specs.Lines.{command_in}
 use Rattle.mq_jsonl.specs.Reading.{reading}
-use Rattle.mq_reach.specs.Search.{Applies, AreTracked, IsTracked, IsWorldOf, told_by}
+use Rattle.mq_reach.specs.Search.{Applies, AreTracked, IsTracked, IsWorldOf, shown_by}
 use Rattle.mq_reach.specs.Subscriptions.{Kept, commands_of, is_taken, made_by, subscriptions}
 use Rattle.mq_reach.specs.Subscriptions.{users_from, world_of, world_then}
 use Rattle.mq_reach.specs.Subscriptions as spec
@@ -89,15 +89,15 @@ refused-all list w request all ts refused sound are =
     AreTracked-zip list (grown w (Some request)) (IsSound w) (λ t u. u ≡ t)
     (reached-grown list w (Some request))
     (λ kept t u s e is. subst (IsTracked list (grown w (Some request) kept)) (sym e)
-    (subst (λ told. IsTracked list (grown w (Some request) kept)
-    (record { told = told; state = t.state })) (sym is.0)
+    (subst (λ shown. IsTracked list (grown w (Some request) kept)
+    (record { shown = shown; state = t.state })) (sym is.0)
     (refused-state list w request kept t.state s refused is.1)))
     all ts ts sound (same-zip ts) are
 
 -- one that is taken closes those that it ends
 abbrev pub ended_by : World → Request → TrackedSubscription → TrackedSubscription
 ended_by w request t =
-    closed_if (is_open t.state && ends w request t.told.client t.told.filter) t
+    closed_if (is_open t.state && ends w request t.shown.client t.shown.filter) t
 
 pub kept-all : (list : AccessList) (w : World) (request : Request) (all : List Kept) (ts : Ts)
     (f : TrackedSubscription → TrackedSubscription) → is_taken w request ≡ true
@@ -111,10 +111,10 @@ kept-all list w request all ts f taken same ended sound are =
     (reached-grown list w (Some request))
     (λ kept t u s e is. subst (IsTracked list (grown w (Some request) kept))
     (sym (e ∙ ended t))
-    (subst (λ told. IsTracked list (grown w (Some request) kept)
-    (ended_by w request (record { told = told; state = t.state }))) (sym is.0)
+    (subst (λ shown. IsTracked list (grown w (Some request) kept)
+    (ended_by w request (record { shown = shown; state = t.state }))) (sym is.0)
     (kept-state list w request kept t.state s taken
-    (same kept.told.client kept.told.filter) is.1)))
+    (same kept.shown.client kept.shown.filter) is.1)))
     all ts (map f ts) sound (map-zip f ts) are
 
 pub asked-all : (list : AccessList) (w : World) (request : Request) (client : Text)
@@ -131,12 +131,12 @@ asked-all list w request client user all ts us taken lasts its others zip sound 
     (Where (is_open_of client) (IsAsked list user))
     (reached-grown list w (Some request))
     (λ kept t u s asked is. asked-state list w request client user kept t.state u s taken
-    (lasts kept.told.client kept.told.filter)
+    (lasts kept.shown.client kept.shown.filter)
     (λ e. ap (λ (c : Text). user_of (next w request).sessions c)
-    (same_text-is kept.told.client client e) ∙ its)
-    (others kept.told.client)
-    (subst (λ told. Where (is_open_of client) (IsAsked list user)
-    (record { told = told; state = t.state }) u) is.0 asked) is.1)
+    (same_text-is kept.shown.client client e) ∙ its)
+    (others kept.shown.client)
+    (subst (λ shown. Where (is_open_of client) (IsAsked list user)
+    (record { shown = shown; state = t.state }) u) is.0 asked) is.1)
     all ts us sound zip are
 
 -- ## Commands that make no subscription
@@ -170,7 +170,7 @@ refused-none lines (Connect id user clean interval) e = refl
 refused-none lines (Disconnect id) e = refl
 refused-none lines (Subscribe id text options) e =
     ap (λ b. option_to_list (cond b (Some (record {
-      told = record {
+      shown = record {
         line = length lines + 1;
         client = id;
         user = user_of (world_of lines).sessions id;
@@ -228,27 +228,27 @@ Applies-ends list request old new f none takes follows tracked ended same counts
 
 -- ## A subscribe
 
--- what it makes is told with the client's user name
-pub made-told : (line : ℕ) (w : World) (sessions : List Session) (request : Request)
+-- what it makes is shown with the client's user name
+pub made-shown : (line : ℕ) (w : World) (sessions : List Session) (request : Request)
     → sessions ≡ unqueued w.sessions
-    → option_map (λ (k : Kept). k.told) (made_by line w request [])
-    ≡ told_by line sessions request
-made-told line w sessions (Connect id user clean interval) e = refl
-made-told line w sessions (Disconnect id) e = refl
-made-told line w sessions (Subscribe id text options) e =
-    let told : Option Text → spec.Subscription = λ user.
+    → option_map (λ (k : Kept). k.shown) (made_by line w request [])
+    ≡ shown_by line sessions request
+made-shown line w sessions (Connect id user clean interval) e = refl
+made-shown line w sessions (Disconnect id) e = refl
+made-shown line w sessions (Subscribe id text options) e =
+    let shown : Option Text → spec.Subscription = λ user.
     record { line = line; client = id; user = user; filter = text } in
     let by : Bool → Option Text → Option spec.Subscription = λ connected user.
     cond (is_client_id id && connected && is_subscription text
-    && not (is_shared text && options.no_local)) (Some (told user)) None in
-    shown (is_taken w (Subscribe id text options))
-    ∙ ap (λ b. cond b (Some (told (user_of w.sessions id))) None)
+    && not (is_shared text && options.no_local)) (Some (shown user)) None in
+    taken_shown (is_taken w (Subscribe id text options))
+    ∙ ap (λ b. cond b (Some (shown (user_of w.sessions id))) None)
     (taken-subscribe w id text options)
     ∙ (λ i. by (sym (connected-unqueued w.sessions id) i) (sym (user-unqueued w.sessions id) i))
     ∙ ap (λ (ss : List Session). by (is_connected ss id) (user_of ss id)) (sym e)
   where
-    shown : (b : Bool) → option_map (λ (k : Kept). k.told) (cond b (Some (record {
-      told = record { line = line; client = id; user = user_of w.sessions id; filter = text };
+    taken_shown : (b : Bool) → option_map (λ (k : Kept). k.shown) (cond b (Some (record {
+      shown = record { line = line; client = id; user = user_of w.sessions id; filter = text };
       users = user_of (next w (Subscribe id text options)).sessions id ∷ [];
       is_open = true;
     })) None) ≡ cond b (Some (record {
@@ -257,10 +257,10 @@ made-told line w sessions (Subscribe id text options) e =
       user = user_of w.sessions id;
       filter = text;
     })) None
-    shown true = refl
-    shown false = refl
-made-told line w sessions (Unsubscribe id text) e = refl
-made-told line w sessions (Publish m) e = refl
-made-told line w sessions (SetAcl text) e = refl
-made-told line w sessions (Advance seconds) e = refl
-made-told line w sessions Stat e = refl
+    taken_shown true = refl
+    taken_shown false = refl
+made-shown line w sessions (Unsubscribe id text) e = refl
+made-shown line w sessions (Publish m) e = refl
+made-shown line w sessions (SetAcl text) e = refl
+made-shown line w sessions (Advance seconds) e = refl
+made-shown line w sessions Stat e = refl

@@ -17,12 +17,12 @@ use Rattle.mq_world.specs.World.{Session, Subscribe, SubscriptionOptions, World}
 use Rattle.mq_world.specs.declared.clock.Clock.{Clock}
 use Rattle.mq_reach.specs.Faults.{FailsBy, IsAskFault, IsFaultAmong, is_short_question}
 use Rattle.mq_reach.specs.Reach.{Reads, ReadsNone}
-use Rattle.mq_reach.specs.Search.{Applies, AreTracked, IsWorldOf, told_by}
+use Rattle.mq_reach.specs.Search.{Applies, AreTracked, IsWorldOf, shown_by}
 use Rattle.mq_reach.specs.Subscriptions.{Kept, commands_of, is_taken, made_by, subscriptions}
 use Rattle.mq_reach.specs.Subscriptions.{world_of}
 use Rattle.mq_reach.specs.Subscriptions as spec
 use Rattle.mq_reach.specs.Tracked.{TrackedSubscription, closed_if, closed_one, is_open}
-use Rattle.mq_reach.specs.Vain.{IsReached, IsVain}
+use Rattle.mq_reach.specs.Unreached.{IsReached, IsUnreached}
 use Rattle.mq_reach.specs.declared.question.SearchFault.{SearchFault}
 use Rattle.mq_reach.specs.declared.question.SearchFault.TheVariants as search
 use Rattle.mq_reach.specs.declared.search.Search.{Search}
@@ -42,8 +42,8 @@ takes_it s id text options =
     is_client_id id && is_connected s.sessions id && is_subscription text
     && not (is_shared text && options.no_local)
 
-abbrev pub told_now : Search → Text → Text → spec.Subscription
-told_now s id text =
+abbrev pub shown_now : Search → Text → Text → spec.Subscription
+shown_now s id text =
     record { line = s.counts.lines + 1; client = id; user = user_of s.sessions id; filter = text }
 
 takes-is : (s : Search) (id text : Text) (options : SubscriptionOptions) (w : World)
@@ -53,28 +53,28 @@ takes-is s id text options w is =
     ∙ ap (λ b. b && is_subscription text && not (is_shared text && options.no_local))
     (sym (can_act-is s id w is))
 
--- nothing is told where it isn't taken
-none_taken : (b : Bool) (told : spec.Subscription) → None ≡ cond b (Some told) None → b ≡ false
-none_taken true told e = cc
-none_taken false told e = refl
+-- nothing is shown where it isn't taken
+none_taken : (b : Bool) (shown : spec.Subscription) → None ≡ cond b (Some shown) None → b ≡ false
+none_taken true shown e = cc
+none_taken false shown e = refl
 
-some_taken : (b : Bool) (told s : spec.Subscription) → Some s ≡ cond b (Some told) None
-    → (b ≡ true) × (s ≡ told)
-some_taken true told s e = (refl, cc)
-some_taken false told s e = cc
+some_taken : (b : Bool) (shown s : spec.Subscription) → Some s ≡ cond b (Some shown) None
+    → (b ≡ true) × (s ≡ shown)
+some_taken true shown s e = (refl, cc)
+some_taken false shown s e = cc
 
 pub subscribe-refused : (list : AccessList) (id text : Text) (options : SubscriptionOptions)
-    (s : Search) → None ≡ told_by (s.counts.lines + 1) s.sessions (Subscribe id text options)
+    (s : Search) → None ≡ shown_by (s.counts.lines + 1) s.sessions (Subscribe id text options)
     → Applies list (Some (Subscribe id text options)) s s
 subscribe-refused list id text options s e =
     Applies-refused list (Subscribe id text options) s
     (λ w is. takes-is s id text options w is
-    ∙ none_taken (takes_it s id text options) (told_now s id text) e)
+    ∙ none_taken (takes_it s id text options) (shown_now s id text) e)
 
 -- what it makes, as it stands behind these lines
 abbrev made : List (List ℕ) → Text → Text → SubscriptionOptions → Kept
 made lines id text options = record {
-  told = record {
+  shown = record {
     line = length lines + 1;
     client = id;
     user = user_of (world_of lines).sessions id;
@@ -95,9 +95,9 @@ module _ (id text : Text) (options : SubscriptionOptions) (s : Search)
   makes-it lines is = ap (λ b. option_to_list (cond b (Some (made lines id text options)) None))
       (taken (world_of lines) is)
 
-  told-is : (lines : List (List ℕ)) → IsWorldOf (world_of lines) s
-      → length lines ≡ s.counts.lines → (made lines id text options).told ≡ told_now s id text
-  told-is lines is count =
+  shown-is : (lines : List (List ℕ)) → IsWorldOf (world_of lines) s
+      → length lines ≡ s.counts.lines → (made lines id text options).shown ≡ shown_now s id text
+  shown-is lines is count =
       (λ i. record {
         line = ap (λ (n : ℕ). n + 1) count i;
         client = id;
@@ -118,10 +118,10 @@ module _ (id text : Text) (options : SubscriptionOptions) (s : Search)
       (next-taken w (Subscribe id text options) (taken w is))
       ∙ sym (ap (λ (ss : List Session). user_of ss id) is.sessions ∙ user-unqueued w.sessions id)
 
-  vain-now : (list : AccessList) (lines : List (List ℕ)) → IsWorldOf (world_of lines) s
+  unreached-now : (list : AccessList) (lines : List (List ℕ)) → IsWorldOf (world_of lines) s
       → ReadsNone list id (user_of s.sessions id) (filter_part text)
-      → IsVain list (made lines id text options)
-  vain-now list lines is none = λ user has.
+      → IsUnreached list (made lines id text options)
+  unreached-now list lines is none = λ user has.
       let user-is : user_of (next (world_of lines) (Subscribe id text options)).sessions id ≡ user =
       only _ user has in
       subst (λ (u : Option Text). ReadsNone list id u (filter_part text))
@@ -165,7 +165,7 @@ module _ (id text : Text) (options : SubscriptionOptions) (s : Search)
         (closed_one id text) (taken w is)
         (λ client own e. user-kept w (Subscribe id text options) client own (taken w is) e refl)
         (λ t. ap (λ b. closed_if b t)
-        (and_assoc (is_open t.state) (same_text t.told.client id) (same_text t.told.filter text)))
+        (and_assoc (is_open t.state) (same_text t.shown.client id) (same_text t.shown.filter text)))
         (all_sound lines) are)
         (subst (λ all. AreTracked list all us) (sym (makes-it lines is)) (one lines is count))));
     counts = counts;
@@ -173,17 +173,17 @@ module _ (id text : Text) (options : SubscriptionOptions) (s : Search)
 
 -- what it makes is reached
 pub subscribe-reached : (list : AccessList) (id text : Text) (options : SubscriptionOptions)
-    (old new : Search) (told : spec.Subscription)
-    → Some told ≡ told_by (old.counts.lines + 1) old.sessions (Subscribe id text options)
+    (old new : Search) (shown : spec.Subscription)
+    → Some shown ≡ shown_by (old.counts.lines + 1) old.sessions (Subscribe id text options)
     → (topic : List ℕ) → IsTrue (is_name topic)
-    → Reads list told.client told.user (filter_part told.filter) topic
+    → Reads list shown.client shown.user (filter_part shown.filter) topic
     → new.sessions ≡ old.sessions → new.clock ≡ old.clock
-    → new.tracked ≡ map (closed_one told.client told.filter) old.tracked
+    → new.tracked ≡ map (closed_one shown.client shown.filter) old.tracked
     → new.counts ≡ old.counts
     → Applies list (Some (Subscribe id text options)) old new
-subscribe-reached list id text options old new told e topic valid reads sessions clock tracked
+subscribe-reached list id text options old new shown e topic valid reads sessions clock tracked
     counts =
-    let some = some_taken (takes_it old id text options) (told_now old id text) told e in
+    let some = some_taken (takes_it old id text options) (shown_now old id text) shown e in
     let here : Reads list id (user_of old.sessions id) (filter_part text) topic =
     subst (λ (t : spec.Subscription). Reads list t.client t.user (filter_part t.filter) topic)
     some.1 reads in
@@ -196,71 +196,71 @@ subscribe-reached list id text options old new told e topic valid reads sessions
     ∙ sym (append-nil (map (closed_one id text) old.tracked)))
     counts
 
--- what it makes is in vain
-pub subscribe-vain : (list : AccessList) (id text : Text) (options : SubscriptionOptions)
-    (old new : Search) (told : spec.Subscription)
-    → Some told ≡ told_by (old.counts.lines + 1) old.sessions (Subscribe id text options)
-    → ReadsNone list told.client told.user (filter_part told.filter)
+-- what it makes is unreached
+pub subscribe-unreached : (list : AccessList) (id text : Text) (options : SubscriptionOptions)
+    (old new : Search) (shown : spec.Subscription)
+    → Some shown ≡ shown_by (old.counts.lines + 1) old.sessions (Subscribe id text options)
+    → ReadsNone list shown.client shown.user (filter_part shown.filter)
     → new.sessions ≡ old.sessions → new.clock ≡ old.clock
-    → new.tracked ≡ map (closed_one told.client told.filter) old.tracked
-    ++ record { told = told; state = Open } ∷ []
+    → new.tracked ≡ map (closed_one shown.client shown.filter) old.tracked
+    ++ record { shown = shown; state = Open } ∷ []
     → new.counts ≡ old.counts
     → Applies list (Some (Subscribe id text options)) old new
-subscribe-vain list id text options old new told e none sessions clock tracked counts =
-    let some = some_taken (takes_it old id text options) (told_now old id text) told e in
+subscribe-unreached list id text options old new shown e none sessions clock tracked counts =
+    let some = some_taken (takes_it old id text options) (shown_now old id text) shown e in
     let here : ReadsNone list id (user_of old.sessions id) (filter_part text) =
     subst (λ (t : spec.Subscription). ReadsNone list t.client t.user (filter_part t.filter))
     some.1 none in
-    applies id text options old some.0 list new (record { told = told; state = Open } ∷ [])
+    applies id text options old some.0 list new (record { shown = shown; state = Open } ∷ [])
     (λ lines is count. inr (
-      record { told = told; state = Open },
+      record { shown = shown; state = Open },
       [],
       refl,
       (
-        some.1 ∙ sym (told-is id text options old some.0 lines is count),
-        inr (refl, vain-now id text options old some.0 list lines is here),
+        some.1 ∙ sym (shown-is id text options old some.0 lines is count),
+        inr (refl, unreached-now id text options old some.0 list lines is here),
       ),
       refl,
     )) sessions clock
     (tracked ∙ ap (λ (t : spec.Subscription). map (closed_one t.client t.filter) old.tracked
-    ++ record { told = told; state = Open } ∷ []) some.1)
+    ++ record { shown = shown; state = Open } ∷ []) some.1)
     counts
 
 long_now : (list : AccessList) (lines : List (List ℕ)) (id text : Text)
-    (options : SubscriptionOptions) (told : spec.Subscription) (fault : SearchFault)
-    → told ≡ (made lines id text options).told
-    → told.user ≡ user_of (next (world_of lines) (Subscribe id text options)).sessions id
-    → IsAskFault list told told.user fault
+    (options : SubscriptionOptions) (shown : spec.Subscription) (fault : SearchFault)
+    → shown ≡ (made lines id text options).shown
+    → shown.user ≡ user_of (next (world_of lines) (Subscribe id text options)).sessions id
+    → IsAskFault list shown shown.user fault
     → IsFaultAmong list (made lines id text options ∷ []) fault
-long_now list lines id text options told search.Memory same user is = tt
-long_now list lines id text options told (search.Row line) same user is = absurd is
-long_now list lines id text options told (search.Subscription line) same user is =
+long_now list lines id text options shown search.Memory same user is = tt
+long_now list lines id text options shown (search.Row line) same user is = absurd is
+long_now list lines id text options shown (search.Subscription line) same user is =
     let kept : Kept = made lines id text options in
     let now : Option Text =
     user_of (next (world_of lines) (Subscribe id text options)).sessions id in
-    let here : (kept.told.line == line) ≡ true =
-    (Decides-eqb kept.told.line line).1
+    let here : (kept.shown.line == line) ≡ true =
+    (Decides-eqb kept.shown.line line).1
     (ap (λ (t : spec.Subscription). t.line) (sym same) ∙ is.0) in
-    let long : is_short_question list kept.told now ≡ false =
-    ap (is_short_question list kept.told) (sym user)
-    ∙ ap (λ (t : spec.Subscription). is_short_question list t told.user) (sym same) ∙ is.1 in
-    ap (λ b. (b && not (is_short_question list kept.told now && true)) || false) here
+    let long : is_short_question list kept.shown now ≡ false =
+    ap (is_short_question list kept.shown) (sym user)
+    ∙ ap (λ (t : spec.Subscription). is_short_question list t shown.user) (sym same) ∙ is.1 in
+    ap (λ b. (b && not (is_short_question list kept.shown now && true)) || false) here
     ∙ ap (λ b. not (b && true) || false) long
 
--- what is told of what it makes is so
+-- what is shown of what it makes is so
 pub subscribe-fails : (list : AccessList) (id text : Text) (options : SubscriptionOptions)
-    (old : Search) (told : spec.Subscription) (fault : SearchFault)
-    → Some told ≡ told_by (old.counts.lines + 1) old.sessions (Subscribe id text options)
-    → IsAskFault list told told.user fault
+    (old : Search) (shown : spec.Subscription) (fault : SearchFault)
+    → Some shown ≡ shown_by (old.counts.lines + 1) old.sessions (Subscribe id text options)
+    → IsAskFault list shown shown.user fault
     → FailsBy list (Some (Subscribe id text options)) old fault
-subscribe-fails list id text options old told fault e is = λ lines line says searched.
-    let some = some_taken (takes_it old id text options) (told_now old id text) told e in
+subscribe-fails list id text options old shown fault e is = λ lines line says searched.
+    let some = some_taken (takes_it old id text options) (shown_now old id text) shown e in
     let w-is : IsWorldOf (world_of lines) old = searched.is_world in
-    let same : told ≡ (made lines id text options).told =
-    some.1 ∙ sym (told-is id text options old some.0 lines w-is (sym searched.counts.lines)) in
+    let same : shown ≡ (made lines id text options).shown =
+    some.1 ∙ sym (shown-is id text options old some.0 lines w-is (sym searched.counts.lines)) in
     made_fault list lines line (Some (Subscribe id text options)) fault says
     (subst (λ all. IsFaultAmong list all fault)
     (sym (makes-it id text options old some.0 lines w-is))
-    (long_now list lines id text options told fault same
+    (long_now list lines id text options shown fault same
     (ap (λ (t : spec.Subscription). t.user) some.1
     ∙ sym (user-now id text options old some.0 (world_of lines) w-is)) is))

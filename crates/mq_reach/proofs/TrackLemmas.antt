@@ -18,8 +18,8 @@ use Rattle.mq_reach.specs.Search.{AreTracked, IsTracked}
 use Rattle.mq_reach.specs.Subscriptions.{Kept, is_taken, stays}
 use Rattle.mq_reach.specs.Subscriptions as spec
 use Rattle.mq_reach.specs.Tracked.{IsAsked, TrackedSubscription, Where, closed_if, is_open}
-use Rattle.mq_reach.specs.Tracked.{is_open_of, told_of, vain_of}
-use Rattle.mq_reach.specs.Vain.{AreVain, IsReached, IsVain}
+use Rattle.mq_reach.specs.Tracked.{is_open_of, shown_of, unreached_of}
+use Rattle.mq_reach.specs.Unreached.{AreUnreached, IsReached, IsUnreached}
 use Rattle.mq_reach.specs.declared.tracked.State.{State}
 use Rattle.mq_reach.specs.declared.tracked.State.TheVariants.{Open, Closed, Reached}
 use Rattle.mq_reach.proofs.GrownLemmas.{IsSound, grown}
@@ -53,22 +53,22 @@ pub reached-grown : (list : AccessList) (w : World) (command : Option Request) (
     → IsReached list kept → IsReached list (grown w command kept)
 reached-grown list w None kept r = r
 reached-grown list w (Some request) kept r =
-    let user : Option Text = user_of (next w request).sessions kept.told.client in
-    elim (kept.is_open && stays (key_of kept.told) w request) as (λ b. IsReached list
+    let user : Option Text = user_of (next w request).sessions kept.shown.client in
+    elim (kept.is_open && stays (key_of kept.shown) w request) as (λ b. IsReached list
     (cond b (record kept { users = kept.users ++ user ∷ [] })
     (record kept { is_open = false })))
     [ true ↦ reached-more list kept user r | false ↦ reached-closed list kept r ]
 
--- one that is in vain stays so under one more user name that doesn't let it read
-vain-more : (list : AccessList) (kept : Kept) (user : Option Text) → IsVain list kept
-    → ReadsNone list kept.told.client user (filter_part kept.told.filter)
-    → IsVain list (record kept { users = kept.users ++ user ∷ [] })
-vain-more list kept user vain none = λ other has.
+-- one that is unreached stays so under one more user name that doesn't let it read
+unreached-more : (list : AccessList) (kept : Kept) (user : Option Text) → IsUnreached list kept
+    → ReadsNone list kept.shown.client user (filter_part kept.shown.filter)
+    → IsUnreached list (record kept { users = kept.users ++ user ∷ [] })
+unreached-more list kept user unreached none = λ other has.
     elim (Contains-push_cases kept.users user other has)
-    as (λ _. ReadsNone list kept.told.client other (filter_part kept.told.filter)) [
-      | inl h ↦ vain other h
-      | inr e ↦ subst (λ (u : Option Text). ReadsNone list kept.told.client u
-          (filter_part kept.told.filter)) e none
+    as (λ _. ReadsNone list kept.shown.client other (filter_part kept.shown.filter)) [
+      | inl h ↦ unreached other h
+      | inr e ↦ subst (λ (u : Option Text). ReadsNone list kept.shown.client u
+          (filter_part kept.shown.filter)) e none
     ]
 
 -- ## One step
@@ -76,90 +76,90 @@ vain-more list kept user vain none = λ other has.
 -- how it is with a subscription in this state
 abbrev IsState : AccessList → Kept → State → Type 0
 IsState list kept state = ((state ≡ Reached) × IsReached list kept)
-    ⊎ ((state ≡ (if kept.is_open then Open else Closed)) × IsVain list kept)
+    ⊎ ((state ≡ (if kept.is_open then Open else Closed)) × IsUnreached list kept)
 
 abbrev tracked_at : Kept → State → TrackedSubscription
-tracked_at kept state = record { told = kept.told; state = state }
+tracked_at kept state = record { shown = kept.shown; state = state }
 
 grown-closed : (w : World) (request : Request) (kept : Kept)
-    → (kept.is_open && stays (key_of kept.told) w request) ≡ false
+    → (kept.is_open && stays (key_of kept.shown) w request) ≡ false
     → grown w (Some request) kept ≡ record kept { is_open = false }
 grown-closed w request kept e =
     ap (λ b. cond b (record kept {
-      users = kept.users ++ user_of (next w request).sessions kept.told.client ∷ [];
+      users = kept.users ++ user_of (next w request).sessions kept.shown.client ∷ [];
     }) (record kept { is_open = false })) e
 
 pub grown-open : (w : World) (request : Request) (kept : Kept)
-    → (kept.is_open && stays (key_of kept.told) w request) ≡ true
+    → (kept.is_open && stays (key_of kept.shown) w request) ≡ true
     → grown w (Some request) kept ≡ record kept {
-      users = kept.users ++ user_of (next w request).sessions kept.told.client ∷ [];
+      users = kept.users ++ user_of (next w request).sessions kept.shown.client ∷ [];
     }
 grown-open w request kept e =
     ap (λ b. cond b (record kept {
-      users = kept.users ++ user_of (next w request).sessions kept.told.client ∷ [];
+      users = kept.users ++ user_of (next w request).sessions kept.shown.client ∷ [];
     }) (record kept { is_open = false })) e
 
 -- a subscription that its session doesn't keep any more stays as it is
 stays-closed : (list : AccessList) (w : World) (request : Request) (kept : Kept) (state : State)
-    → kept.is_open ≡ false → state ≡ (if kept.is_open then Open else Closed) → IsVain list kept
+    → kept.is_open ≡ false → state ≡ (if kept.is_open then Open else Closed) → IsUnreached list kept
     → IsTracked list (grown w (Some request) kept) (tracked_at kept state)
-stays-closed list w request kept state shut e vain =
+stays-closed list w request kept state shut e unreached =
     let closed : state ≡ Closed = e ∙ ap (λ b. cond b Open Closed) shut in
     subst (λ (k : Kept). IsTracked list k (tracked_at kept state))
     (sym (grown-closed w request kept
-    (ap (λ b. b && stays (key_of kept.told) w request) shut)))
-    (refl, inr (closed, vain))
+    (ap (λ b. b && stays (key_of kept.shown) w request) shut)))
+    (refl, inr (closed, unreached))
 
--- one that its session keeps is open, and in vain under one more user name
+-- one that its session keeps is open, and unreached under one more user name
 stays-open : (list : AccessList) (w : World) (request : Request) (kept : Kept) (state : State)
-    → (kept.is_open && stays (key_of kept.told) w request) ≡ true
-    → state ≡ (if kept.is_open then Open else Closed) → IsVain list kept
-    → ReadsNone list kept.told.client (user_of (next w request).sessions kept.told.client)
-    (filter_part kept.told.filter)
+    → (kept.is_open && stays (key_of kept.shown) w request) ≡ true
+    → state ≡ (if kept.is_open then Open else Closed) → IsUnreached list kept
+    → ReadsNone list kept.shown.client (user_of (next w request).sessions kept.shown.client)
+    (filter_part kept.shown.filter)
     → IsTracked list (grown w (Some request) kept) (tracked_at kept state)
-stays-open list w request kept state still e vain none =
+stays-open list w request kept state still e unreached none =
     subst (λ (k : Kept). IsTracked list k (tracked_at kept state))
     (sym (grown-open w request kept still)) (
       refl,
       inr (
         e,
-        vain-more list kept
-            (user_of (next w request).sessions kept.told.client) vain none,
+        unreached-more list kept
+            (user_of (next w request).sessions kept.shown.client) unreached none,
       ),
     )
 
 -- one that its session keeps no longer is closed
 is_closed : (list : AccessList) (w : World) (request : Request) (kept : Kept)
-    → (kept.is_open && stays (key_of kept.told) w request) ≡ false → IsVain list kept
+    → (kept.is_open && stays (key_of kept.shown) w request) ≡ false → IsUnreached list kept
     → IsTracked list (grown w (Some request) kept) (tracked_at kept Closed)
-is_closed list w request kept shut vain =
+is_closed list w request kept shut unreached =
     subst (λ (k : Kept). IsTracked list k (tracked_at kept Closed))
     (sym (grown-closed w request kept shut))
-    (refl, inr (refl, vain))
+    (refl, inr (refl, unreached))
 
-pub grown-told : (w : World) (command : Option Request) (kept : Kept)
-    → (grown w command kept).told ≡ kept.told
-grown-told w None kept = refl
-grown-told w (Some request) kept =
-    elim (kept.is_open && stays (key_of kept.told) w request) as (λ b. (cond b (record kept {
-      users = kept.users ++ user_of (next w request).sessions kept.told.client ∷ [];
-    }) (record kept { is_open = false })).told ≡ kept.told) [ true ↦ refl | false ↦ refl ]
+pub grown-shown : (w : World) (command : Option Request) (kept : Kept)
+    → (grown w command kept).shown ≡ kept.shown
+grown-shown w None kept = refl
+grown-shown w (Some request) kept =
+    elim (kept.is_open && stays (key_of kept.shown) w request) as (λ b. (cond b (record kept {
+      users = kept.users ++ user_of (next w request).sessions kept.shown.client ∷ [];
+    }) (record kept { is_open = false })).shown ≡ kept.shown) [ true ↦ refl | false ↦ refl ]
 
 -- one that is reached stays as it is
 stays-reached : (list : AccessList) (w : World) (request : Request) (kept : Kept) (state : State)
     → state ≡ Reached → IsReached list kept
     → IsTracked list (grown w (Some request) kept) (tracked_at kept state)
 stays-reached list w request kept state e r =
-    (sym (grown-told w (Some request) kept), inl (e, reached-grown list w (Some request) kept r))
+    (sym (grown-shown w (Some request) kept), inl (e, reached-grown list w (Some request) kept r))
 
 -- its client's user name is one that its session had
 same_user : (list : AccessList) (w : World) (request : Request) (kept : Kept) → IsSound w kept
-    → kept.is_open ≡ true → IsVain list kept
-    → user_of (next w request).sessions kept.told.client ≡ user_of w.sessions kept.told.client
-    → ReadsNone list kept.told.client (user_of (next w request).sessions kept.told.client)
-    (filter_part kept.told.filter)
-same_user list w request kept sound still vain same =
-    vain (user_of (next w request).sessions kept.told.client)
+    → kept.is_open ≡ true → IsUnreached list kept
+    → user_of (next w request).sessions kept.shown.client ≡ user_of w.sessions kept.shown.client
+    → ReadsNone list kept.shown.client (user_of (next w request).sessions kept.shown.client)
+    (filter_part kept.shown.filter)
+same_user list w request kept sound still unreached same =
+    unreached (user_of (next w request).sessions kept.shown.client)
     (subst (λ (u : Option Text). Contains kept.users u) (sym same) (sound.current still))
 
 -- a command that isn't taken leaves it
@@ -171,34 +171,34 @@ refused-state list w request kept state sound refused (inl h) =
 refused-state list w request kept state sound refused (inr h) =
     pick kept.is_open
     (λ still. stays-open list w request kept state
-    (ap (λ b. b && stays (key_of kept.told) w request) still
-    ∙ stays-refused (key_of kept.told) w request refused (sound.there still)) h.0 h.1
+    (ap (λ b. b && stays (key_of kept.shown) w request) still
+    ∙ stays-refused (key_of kept.shown) w request refused (sound.there still)) h.0 h.1
     (same_user list w request kept sound still h.1
-    (ap (λ (v : World). user_of v.sessions kept.told.client) (next-refused w request refused))))
+    (ap (λ (v : World). user_of v.sessions kept.shown.client) (next-refused w request refused))))
     (λ shut. stays-closed list w request kept state shut h.0 h.1)
 
 -- one that is taken, under which the client has the user name that it had, closes it where it ends it
 pub kept-state : (list : AccessList) (w : World) (request : Request) (kept : Kept) (state : State)
     → IsSound w kept → is_taken w request ≡ true
-    → (ends w request kept.told.client kept.told.filter ≡ false
-    → user_of (next w request).sessions kept.told.client ≡ user_of w.sessions kept.told.client)
+    → (ends w request kept.shown.client kept.shown.filter ≡ false
+    → user_of (next w request).sessions kept.shown.client ≡ user_of w.sessions kept.shown.client)
     → IsState list kept state
     → IsTracked list (grown w (Some request) kept)
-    (closed_if (is_open state && ends w request kept.told.client kept.told.filter)
+    (closed_if (is_open state && ends w request kept.shown.client kept.shown.filter)
     (tracked_at kept state))
 kept-state list w request kept state sound taken same (inl h) =
-    let over : Bool = ends w request kept.told.client kept.told.filter in
+    let over : Bool = ends w request kept.shown.client kept.shown.filter in
     subst (λ (s : State). IsTracked list (grown w (Some request) kept)
     (closed_if (is_open s && over) (tracked_at kept s))) (sym h.0)
     (stays-reached list w request kept Reached refl h.1)
 kept-state list w request kept state sound taken same (inr h) =
-    let over : Bool = ends w request kept.told.client kept.told.filter in
+    let over : Bool = ends w request kept.shown.client kept.shown.filter in
     let G : State → Type 0 = λ s. IsTracked list (grown w (Some request) kept)
     (closed_if (is_open s && over) (tracked_at kept s)) in
     pick kept.is_open
-    (λ still. (let lasts : (kept.is_open && stays (key_of kept.told) w request) ≡ not over =
-    ap (λ b. b && stays (key_of kept.told) w request) still
-    ∙ stays-taken kept.told w request taken sound.valid (sound.there still) in
+    (λ still. (let lasts : (kept.is_open && stays (key_of kept.shown) w request) ≡ not over =
+    ap (λ b. b && stays (key_of kept.shown) w request) still
+    ∙ stays-taken kept.shown w request taken sound.valid (sound.there still) in
     subst G (sym (h.0 ∙ ap (λ b. cond b Open Closed) still))
     (pick over
     (λ e. subst (λ b. IsTracked list (grown w (Some request) kept)
@@ -218,29 +218,29 @@ kept-state list w request kept state sound taken same (inr h) =
 pub asked-state : (list : AccessList) (w : World) (request : Request) (client : Text)
     (user : Option Text) (kept : Kept) (state : State) (new : TrackedSubscription)
     → IsSound w kept → is_taken w request ≡ true
-    → ends w request kept.told.client kept.told.filter ≡ false
-    → (same_text kept.told.client client ≡ true
-    → user_of (next w request).sessions kept.told.client ≡ user)
-    → (same_text kept.told.client client ≡ false
-    → user_of (next w request).sessions kept.told.client ≡ user_of w.sessions kept.told.client)
+    → ends w request kept.shown.client kept.shown.filter ≡ false
+    → (same_text kept.shown.client client ≡ true
+    → user_of (next w request).sessions kept.shown.client ≡ user)
+    → (same_text kept.shown.client client ≡ false
+    → user_of (next w request).sessions kept.shown.client ≡ user_of w.sessions kept.shown.client)
     → Where (is_open_of client) (IsAsked list user) (tracked_at kept state) new
     → IsState list kept state → IsTracked list (grown w (Some request) kept) new
 asked-state list w request client user kept state new sound taken lasts its other asked (inl h) =
     let none : is_open_of client (tracked_at kept state) ≡ false =
-    ap (λ s. is_open s && same_text kept.told.client client) h.0 in
+    ap (λ s. is_open s && same_text kept.shown.client client) h.0 in
     subst (λ (t : TrackedSubscription). IsTracked list (grown w (Some request) kept) t)
     (sym (subst (λ b. MatchBool b (IsAsked list user (tracked_at kept state) new)
     (new ≡ tracked_at kept state)) none asked))
     (stays-reached list w request kept state h.0 h.1)
 asked-state list w request client user kept state new sound taken lasts its other asked (inr h) =
     pick kept.is_open
-    (λ still. (let stands : (kept.is_open && stays (key_of kept.told) w request) ≡ true =
-    ap (λ b. b && stays (key_of kept.told) w request) still
-    ∙ stays-taken kept.told w request taken sound.valid (sound.there still) ∙ ap not lasts in
+    (λ still. (let stands : (kept.is_open && stays (key_of kept.shown) w request) ≡ true =
+    ap (λ b. b && stays (key_of kept.shown) w request) still
+    ∙ stays-taken kept.shown w request taken sound.valid (sound.there still) ∙ ap not lasts in
     let is : state ≡ Open = h.0 ∙ ap (λ b. cond b Open Closed) still in
-    let same : is_open_of client (tracked_at kept state) ≡ same_text kept.told.client client =
-    ap (λ s. is_open s && same_text kept.told.client client) is in
-    pick (same_text kept.told.client client)
+    let same : is_open_of client (tracked_at kept state) ≡ same_text kept.shown.client client =
+    ap (λ s. is_open s && same_text kept.shown.client client) is in
+    pick (same_text kept.shown.client client)
     (λ e. open_asked stands (its e)
     (subst (λ b. MatchBool b (IsAsked list user (tracked_at kept state) new)
     (new ≡ tracked_at kept state)) (same ∙ e) asked))
@@ -249,7 +249,7 @@ asked-state list w request client user kept state new sound taken lasts its othe
     (stays-open list w request kept state stands h.0 h.1
     (same_user list w request kept sound still h.1 (other e))))))
     (λ shut. (let none : is_open_of client (tracked_at kept state) ≡ false =
-    ap (λ s. is_open s && same_text kept.told.client client)
+    ap (λ s. is_open s && same_text kept.shown.client client)
     (h.0 ∙ ap (λ b. cond b Open Closed) shut) in
     left (subst (λ b. MatchBool b (IsAsked list user (tracked_at kept state) new)
     (new ≡ tracked_at kept state)) none asked)
@@ -261,18 +261,18 @@ asked-state list w request client user kept state new sound taken lasts its othe
     left e t = subst (λ (u : TrackedSubscription). IsTracked list (grown w (Some request) kept) u)
         (sym e) t
 
-    open_asked : (kept.is_open && stays (key_of kept.told) w request) ≡ true
-        → user_of (next w request).sessions kept.told.client ≡ user
+    open_asked : (kept.is_open && stays (key_of kept.shown) w request) ≡ true
+        → user_of (next w request).sessions kept.shown.client ≡ user
         → IsAsked list user (tracked_at kept state) new
         → IsTracked list (grown w (Some request) kept) new
     open_asked stands now (inl none) = left none.0
         (stays-open list w request kept state stands h.0 h.1
-        (subst (λ (u : Option Text). ReadsNone list kept.told.client u
-        (filter_part kept.told.filter)) (sym now) none.1))
+        (subst (λ (u : Option Text). ReadsNone list kept.shown.client u
+        (filter_part kept.shown.filter)) (sym now) none.1))
     open_asked stands now (inr some) =
-        let has : Option Text = user_of (next w request).sessions kept.told.client in
+        let has : Option Text = user_of (next w request).sessions kept.shown.client in
         subst (λ (k : Kept). IsTracked list k new) (sym (grown-open w request kept stands)) (
-          ap (λ (t : TrackedSubscription). t.told) some.0,
+          ap (λ (t : TrackedSubscription). t.shown) some.0,
           inl (
             ap (λ (t : TrackedSubscription). t.state) some.0,
             record {
@@ -280,8 +280,8 @@ asked-state list w request client user kept state new sound taken lasts its othe
               had = Contains-push kept.users has;
               topic = some.1.0;
               valid = some.1.1;
-              reads = subst (λ (u : Option Text). Reads list kept.told.client u
-                  (filter_part kept.told.filter) some.1.0) (sym now) some.1.2;
+              reads = subst (λ (u : Option Text). Reads list kept.shown.client u
+                  (filter_part kept.shown.filter) some.1.0) (sym now) some.1.2;
             },
           ),
         )
@@ -331,27 +331,27 @@ AreTracked-append list (kept ∷ all) more ts us (inr h) others =
       AreTracked-append list all more h.1 us h.4 others,
     )
 
-shown : (told : spec.Subscription) (b : Bool)
-    → told_of (record { told = told; state = cond b Open Closed }) ≡ Some told
-shown told true = refl
-shown told false = refl
+open_shown : (shown : spec.Subscription) (b : Bool)
+    → shown_of (record { shown = shown; state = cond b Open Closed }) ≡ Some shown
+open_shown shown true = refl
+open_shown shown false = refl
 
--- those that are told are the ones in vain
-pub AreVain-told : (list : AccessList) (all : List Kept) (ts : List TrackedSubscription)
-    → AreTracked list all ts → AreVain list all (vain_of ts)
-AreVain-told list [] ts are = ap vain_of are
-AreVain-told list (kept ∷ all) ts (inl h) = inl (h.0, AreVain-told list all ts h.1)
-AreVain-told list (kept ∷ all) ts (inr h) =
-    let rest : AreVain list all (vain_of h.1) = AreVain-told list all h.1 h.4 in
-    subst (λ l. AreVain list (kept ∷ all) (vain_of l)) (sym h.2) (told h.3.1 rest)
+-- those that are shown are the ones unreached
+pub AreUnreached-shown : (list : AccessList) (all : List Kept) (ts : List TrackedSubscription)
+    → AreTracked list all ts → AreUnreached list all (unreached_of ts)
+AreUnreached-shown list [] ts are = ap unreached_of are
+AreUnreached-shown list (kept ∷ all) ts (inl h) = inl (h.0, AreUnreached-shown list all ts h.1)
+AreUnreached-shown list (kept ∷ all) ts (inr h) =
+    let rest : AreUnreached list all (unreached_of h.1) = AreUnreached-shown list all h.1 h.4 in
+    subst (λ l. AreUnreached list (kept ∷ all) (unreached_of l)) (sym h.2) (shown h.3.1 rest)
   where
-    told : IsState list kept h.0.state → AreVain list all (vain_of h.1)
-        → AreVain list (kept ∷ all) (cons_option (told_of h.0) (vain_of h.1))
-    told (inl r) rest =
-        subst (λ o. AreVain list (kept ∷ all) (cons_option o (vain_of h.1)))
-        (sym (ap (λ s. told_of (record { told = h.0.told; state = s })) r.0)) (inl (r.1, rest))
-    told (inr v) rest =
-        subst (λ o. AreVain list (kept ∷ all) (cons_option o (vain_of h.1)))
-        (sym (ap (λ s. told_of (record { told = h.0.told; state = s })) v.0
-        ∙ shown h.0.told kept.is_open ∙ ap (λ t. Some t) h.3.0))
-        (inr (v.1, (vain_of h.1, refl, rest)))
+    shown : IsState list kept h.0.state → AreUnreached list all (unreached_of h.1)
+        → AreUnreached list (kept ∷ all) (cons_option (shown_of h.0) (unreached_of h.1))
+    shown (inl r) rest =
+        subst (λ o. AreUnreached list (kept ∷ all) (cons_option o (unreached_of h.1)))
+        (sym (ap (λ s. shown_of (record { shown = h.0.shown; state = s })) r.0)) (inl (r.1, rest))
+    shown (inr v) rest =
+        subst (λ o. AreUnreached list (kept ∷ all) (cons_option o (unreached_of h.1)))
+        (sym (ap (λ s. shown_of (record { shown = h.0.shown; state = s })) v.0
+        ∙ open_shown h.0.shown kept.is_open ∙ ap (λ t. Some t) h.3.0))
+        (inr (v.1, (unreached_of h.1, refl, rest)))

@@ -20,7 +20,7 @@ use Rattle.mq_reach.specs.Tracked.{TrackedSubscription, Where, entry_view}
 use Rattle.mq_reach.specs.Tracked.{is_open_of, places_from, subscription_view}
 use Rattle.mq_reach.specs.declared.question.SearchFault.{SearchFault}
 use Rattle.mq_reach.specs.declared.question.SearchFault.TheVariants as search
-use Rattle.mq_reach.specs.Tracked.{subscription_views, told_of, vain_of}
+use Rattle.mq_reach.specs.Tracked.{subscription_views, shown_of, unreached_of}
 use Rattle.mq_reach.specs.declared.subscription.Subscription.{Subscription}
 use Rattle.mq_reach.specs.declared.tracked.Entry.{Entry}
 use Rattle.mq_reach.proofs.PlaceLemmas.{At, Relation, Steps, Test, Ts, longer, steps-zip}
@@ -80,18 +80,18 @@ steps-done R places i ts over =
     drop-all (n ∷ ns) zero over = absurd (omega arith)
     drop-all (n ∷ ns) (suc i) over = drop-all ns i (omega arith)
 
--- what is told of each entry
-abbrev pub told_all : List Entry → List spec.Subscription
-told_all es = map (λ e. subscription_view e.subscription) es
+-- what is shown of each entry
+abbrev pub shown_all : List Entry → List spec.Subscription
+shown_all es = map (λ e. subscription_view e.subscription) es
 
 -- an entry that is set with the same subscription
-pub told-set : (es : List Entry) (n : ℕ) (e d : Entry) → n < length es
+pub shown-set : (es : List Entry) (n : ℕ) (e d : Entry) → n < length es
     → subscription_view e.subscription ≡ subscription_view (get_or es n d).subscription
-    → told_all (set es n e) ≡ told_all es
-told-set [] n e d low same = refl
-told-set (x ∷ es) zero e d low same = ap (λ s. s ∷ told_all es) same
-told-set (x ∷ es) (suc n) e d low same =
-    ap (λ l. subscription_view x.subscription ∷ l) (told-set es n e d (omega arith) same)
+    → shown_all (set es n e) ≡ shown_all es
+shown-set [] n e d low same = refl
+shown-set (x ∷ es) zero e d low same = ap (λ s. s ∷ shown_all es) same
+shown-set (x ∷ es) (suc n) e d low same =
+    ap (λ l. subscription_view x.subscription ∷ l) (shown-set es n e d (omega arith) same)
 
 passing : (p : Test) (ts pre : Ts) (n : ℕ) → length pre ≡ n
     → All (λ k. (d : TrackedSubscription) → p (get_or (pre ++ ts) k d) ≡ true) (places_from n p ts)
@@ -116,16 +116,16 @@ passing p (t ∷ ts) pre n l =
     here (x ∷ pre) zero l d = absurd (omega arith)
     here (x ∷ pre) (suc n) l d = here pre n (omega arith) d
 
-told-at : (es fs : List Entry) (n : ℕ) (d : Entry) → told_all es ≡ told_all fs
+shown-at : (es fs : List Entry) (n : ℕ) (d : Entry) → shown_all es ≡ shown_all fs
     → n < length es → n < length fs
     → subscription_view (get_or es n d).subscription
     ≡ subscription_view (get_or fs n d).subscription
-told-at [] fs n d same low high = absurd (omega arith)
-told-at (e ∷ es) [] n d same low high = absurd (omega arith)
-told-at (e ∷ es) (f ∷ fs) zero d same low high = cc
-told-at (e ∷ es) (f ∷ fs) (suc n) d same low high =
-    let rest : told_all es ≡ told_all fs = cc in
-    told-at es fs n d rest (omega arith) (omega arith)
+shown-at [] fs n d same low high = absurd (omega arith)
+shown-at (e ∷ es) [] n d same low high = absurd (omega arith)
+shown-at (e ∷ es) (f ∷ fs) zero d same low high = cc
+shown-at (e ∷ es) (f ∷ fs) (suc n) d same low high =
+    let rest : shown_all es ≡ shown_all fs = cc in
+    shown-at es fs n d rest (omega arith) (omega arith)
 
 mapped-at : (es : List Entry) (n : ℕ) (d : Entry) → n < length es
     → get_or (map entry_view es) n (entry_view d) ≡ entry_view (get_or es n d)
@@ -137,9 +137,9 @@ pub mapped-long : (es : List Entry) → length (map entry_view es) ≡ length es
 mapped-long [] = refl
 mapped-long (e ∷ es) = ap (λ n. suc n) (mapped-long es)
 
--- what is told of the entry at a place of a walk over this client's is told of one of them
+-- what is shown of the entry at a place of a walk over this client's is shown of one of them
 pub fault-at : (list : AccessList) (client : Text) (user : Option Text) (es fs : List Entry)
-    (places : List ℕ) (i : ℕ) (d : Entry) (fault : SearchFault) → told_all es ≡ told_all fs
+    (places : List ℕ) (i : ℕ) (d : Entry) (fault : SearchFault) → shown_all es ≡ shown_all fs
     → length es ≡ length fs
     → i < length places → get_or places i 0 < length es
     → places ≡ places_from 0 (is_open_of client) (map entry_view fs)
@@ -152,9 +152,9 @@ fault-at list client user es fs places i d (search.Subscription line) same long 
     let ts : Ts = map entry_view fs in
     let t : TrackedSubscription = get_or ts n (entry_view d) in
     let high : n < length fs = omega arith in
-    let told : subscription_view (get_or es n d).subscription ≡ t.told =
-    told-at es fs n d same within high
-    ∙ sym (ap (λ (v : TrackedSubscription). v.told) (mapped-at fs n d high)) in
+    let shown : subscription_view (get_or es n d).subscription ≡ t.shown =
+    shown-at es fs n d same within high
+    ∙ sym (ap (λ (v : TrackedSubscription). v.shown) (mapped-at fs n d high)) in
     let pass : is_open_of client t ≡ true =
     All-get_or (λ k. (e : TrackedSubscription) → is_open_of client (get_or ts k e) ≡ true) places i
     0 low (subst (λ (ns : List ℕ). All (λ k. (e : TrackedSubscription)
@@ -163,11 +163,11 @@ fault-at list client user es fs places i d (search.Subscription line) same long 
     list_any_at (is_long_now list line client user) ts n (entry_view d)
     (let count : length ts ≡ length fs = mapped-long fs in omega arith)
     (and_from (is_open_of client t)
-    ((t.told.line == line) && not (is_short_question list t.told user))
-    pass (and_from (t.told.line == line) (not (is_short_question list t.told user))
-    ((Decides-eqb t.told.line line).1
-    (sym (ap (λ (s : spec.Subscription). s.line) told) ∙ is.0))
-    (ap not (sym (ap (λ (s : spec.Subscription). is_short_question list s user) told) ∙ is.1))))
+    ((t.shown.line == line) && not (is_short_question list t.shown user))
+    pass (and_from (t.shown.line == line) (not (is_short_question list t.shown user))
+    ((Decides-eqb t.shown.line line).1
+    (sym (ap (λ (s : spec.Subscription). s.line) shown) ∙ is.0))
+    (ap not (sym (ap (λ (s : spec.Subscription). is_short_question list s user) shown) ∙ is.1))))
 
 -- ## A walk from its start to its end
 
@@ -213,19 +213,19 @@ left-within es fs places i same within =
     (λ n h. (let count : length (map entry_view fs) ≡ length fs = mapped-long fs in omega arith))
     (drop i places) (All-drop (λ n. n < length es) i places within)
 
--- ## What is told
+-- ## What is shown
 
--- one more entry, and what is told of it
-pub told-more : (told : List Subscription) (es : List Entry) (e : Entry) (o : Option Subscription)
-    → subscription_views told ≡ vain_of (map entry_view es)
-    → option_map subscription_view o ≡ told_of (entry_view e)
-    → subscription_views (told ++ option_to_list o) ≡ vain_of (map entry_view (es ++ e ∷ []))
-told-more told es e o are is =
-    map-append subscription_view told (option_to_list o)
+-- one more entry, and what is shown of it
+pub shown-more : (shown : List Subscription) (es : List Entry) (e : Entry) (o : Option Subscription)
+    → subscription_views shown ≡ unreached_of (map entry_view es)
+    → option_map subscription_view o ≡ shown_of (entry_view e)
+    → subscription_views (shown ++ option_to_list o) ≡ unreached_of (map entry_view (es ++ e ∷ []))
+shown-more shown es e o are is =
+    map-append subscription_view shown (option_to_list o)
     ∙ (λ i. are i ++ listed o i)
-    ∙ ap (λ l. vain_of (map entry_view es) ++ cons_option l []) is
-    ∙ sym (filter_map-append told_of (map entry_view es) (entry_view e ∷ []))
-    ∙ sym (ap vain_of (map-append entry_view es (e ∷ [])))
+    ∙ ap (λ l. unreached_of (map entry_view es) ++ cons_option l []) is
+    ∙ sym (filter_map-append shown_of (map entry_view es) (entry_view e ∷ []))
+    ∙ sym (ap unreached_of (map-append entry_view es (e ∷ [])))
   where
     listed : (o : Option Subscription) → map subscription_view (option_to_list o)
         ≡ cons_option (option_map subscription_view o) []

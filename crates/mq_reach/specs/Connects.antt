@@ -20,4 +20,4 @@ Connects list client user clean sessions old new =
 -- it is closed if it is of a session that has ended
 abbrev pub closed_ended : ℕ → List Session → TrackedSubscription → TrackedSubscription
 closed_ended moment sessions t =
-    closed_if (is_open t.state && is_among (filter (has_ended moment) sessions) t.told.client) t
+    closed_if (is_open t.state && is_among (filter (has_ended moment) sessions) t.shown.client) t

@@ -1,4 +1,4 @@
--- What is told where a script isn't searched to its end.
+-- What is shown where a script isn't searched to its end.
 use Rattle.std.specs.Prelude.{◌≡◌, ◌<◌, ◌==◌, ◌++◌, ◌∷◌, [], ℕ, Bool, true, false, List, ◌&&◌, not}
 use Rattle.std.specs.Prelude.{length, Option, Some, IfSome, ⊤}
 use Rattle.std.specs.Option.{option_to_list}
@@ -33,16 +33,16 @@ is_short_question list s user = is_short s.client && is_short_user user
 
 -- so it is of each user name that its client's session has while it keeps the subscription
 abbrev pub is_short_subscription : AccessList → Kept → Bool
-is_short_subscription list kept = list_all (is_short_question list kept.told) kept.users
+is_short_subscription list kept = list_all (is_short_question list kept.shown) kept.users
 
 -- it is of this line, and too long
 abbrev pub is_long_at : AccessList → ℕ → Kept → Bool
-is_long_at list line kept = (kept.told.line == line) && not (is_short_subscription list kept)
+is_long_at list line kept = (kept.shown.line == line) && not (is_short_subscription list kept)
 
 abbrev pub has_long_at : AccessList → ℕ → List Kept → Bool
 has_long_at list line all = list_any (is_long_at list line) all
 
--- what is told of a subscription under this user name, or none, is so
+-- what is shown of a subscription under this user name, or none, is so
 abbrev pub IsAskFault : AccessList → Subscription → Option Text → SearchFault → Type 0
 IsAskFault list s user search.Memory = ⊤
 IsAskFault list s user (search.Row line) = ⊥
@@ -52,9 +52,9 @@ IsAskFault list s user (search.Subscription line) =
 -- a tracked subscription of this line is asked about, and the question is too long
 abbrev pub is_long_now : AccessList → ℕ → Text → Option Text → TrackedSubscription → Bool
 is_long_now list line client user t = is_open_of client t
-    && ((t.told.line == line) && not (is_short_question list t.told user))
+    && ((t.shown.line == line) && not (is_short_question list t.shown user))
 
--- what is told of those that are open and this client's is so
+-- what is shown of those that are open and this client's is so
 abbrev pub IsFaultOpen : AccessList → Text → Option Text → List TrackedSubscription → SearchFault
     → Type 0
 IsFaultOpen list client user all search.Memory = ⊤
@@ -62,20 +62,20 @@ IsFaultOpen list client user all (search.Row line) = ⊥
 IsFaultOpen list client user all (search.Subscription line) =
     list_any (is_long_now list line client user) all ≡ true
 
--- what is told of these subscriptions is so
+-- what is shown of these subscriptions is so
 abbrev pub IsFaultAmong : AccessList → List Kept → SearchFault → Type 0
 IsFaultAmong list all search.Memory = ⊤
 IsFaultAmong list all (search.Row line) = ⊥
 IsFaultAmong list all (search.Subscription line) = has_long_at list line all ≡ true
 
--- what is told of a list, or of a subscription of a script, is so
+-- what is shown of a list, or of a subscription of a script, is so
 abbrev pub IsSearchFault : Rules → List Row → (given : List ℕ) → SearchFault → Type 0
 IsSearchFault rules rows given search.Memory = ⊤
 IsSearchFault rules rows given (search.Row line) = long_line rows ≡ Some line
 IsSearchFault rules rows given (search.Subscription line) =
     has_long_at (list_by rules (row_views rows)) line (subscriptions (all_lines given)) ≡ true
 
--- of a reader that tells its bytes, what is told is so of those that it gave; that it failed, no
+-- of a reader that shows its bytes, what is shown is so of those that it gave; that it failed, no
 -- clause says
 abbrev pub IsScriptFault : Rules → List Row → (before after : Option (List ℕ)) → ScriptFault
     → Type 0
@@ -87,7 +87,7 @@ IsScriptFault rules rows before after (script.Search fault) =
 
 -- ## A search on its way
 
--- what is told of a line that says this command is so
+-- what is shown of a line that says this command is so
 abbrev pub FailsBy : AccessList → Option Request → Search → SearchFault → Type 0
 FailsBy list command old fault = (lines : List (List ℕ)) (line : List ℕ)
     → commands_of (line ∷ []) ≡ option_to_list command → IsSearched list lines old
@@ -98,7 +98,7 @@ unfoldable pub FailsIn : AccessList → Reading → (bytes : List ℕ) → Searc
 FailsIn list r bytes fault = (given : List ℕ) → HoldsScript list given r
     → IsFaultAmong list (subscriptions (whole_lines (given ++ bytes))) fault
 
--- and so is what is told of a reader
+-- and so is what is shown of a reader
 abbrev pub StopsWith : AccessList → Reading → (before after : Option (List ℕ)) → ScriptFault
     → Type 0
 StopsWith list r before after (script.Read error) = ⊤

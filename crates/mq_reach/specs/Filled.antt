@@ -48,7 +48,7 @@ pub record IsPassed (client : List ℕ) (user : Option (List ℕ)) (row : AclRow
   pub passed : passes (test name) denying granting ≡ true
 
 -- ---- the limit
--- what is told of rows that are filled, which are among these, is so
+-- what is shown of rows that are filled, which are among these, is so
 abbrev pub IsFillFault : List ℕ → Option (List ℕ) → List AclRow → ReachFault → Type 0
 IsFillFault client user rows reach.Memory = ⊤
 IsFillFault client user rows reach.Client = ⊥
@@ -56,7 +56,7 @@ IsFillFault client user rows reach.User = ⊥
 IsFillFault client user rows reach.Filter = ⊥
 IsFillFault client user rows reach.Pattern = list_all (is_fit client user) rows ≡ false
 
--- and what is told of what is asked of them
+-- and what is shown of what is asked of them
 abbrev pub IsPatternFault : List ℕ → Option (List ℕ) → (filter : List ℕ) → List AclRow
     → ReachFault → Type 0
 IsPatternFault client user filter rows reach.Memory = ⊤

@@ -2,7 +2,7 @@ pub mod Reach
 pub mod ByOwner
 pub mod Filled
 pub mod Subscriptions
-pub mod Vain
+pub mod Unreached
 pub mod Tracked
 pub mod Unqueued
 pub mod Connects

@@ -37,7 +37,7 @@ pub record Reads (list : AccessList) (client : List ℕ) (user : Option (List �
   pub matched : matches (levels filter) (levels name) ≡ true
   pub may_read : allow_by list.rules list.rows client user name Reading ≡ true
 
--- ---- what is told of what is too long
+-- ---- what is shown of what is too long
 abbrev pub is_short_user : Option (List ℕ) → Bool
 is_short_user user = mark_passes is_short user
 
@@ -52,7 +52,7 @@ abbrev pub can_fill : Rules → List AclRow → List ℕ → Option (List ℕ) �
 can_fill Own rows client user = true
 can_fill Mosquitto rows client user = list_all (is_fit client (known_user user)) rows
 
--- what is told of a client id, a user name and a filter is so
+-- what is shown of a client id, a user name and a filter is so
 abbrev pub IsReachFault : AccessList → (client : List ℕ) → (user : Option (List ℕ))
     → (filter : List ℕ) → ReachFault → Type 0
 IsReachFault list client user filter reach.Memory = ⊤
@@ -62,14 +62,14 @@ IsReachFault list client user filter reach.Filter = has_short_levels filter ≡ 
 IsReachFault list client user filter reach.Pattern =
     can_fill list.rules list.rows client user ≡ false
 
--- what is told of the limits of a question about one client
+-- what is shown of the limits of a question about one client
 abbrev pub reach_fault : LimitFault → ReachFault
 reach_fault limit.Memory = reach.Memory
 reach_fault limit.Client = reach.Client
 reach_fault limit.User = reach.User
 reach_fault limit.Row = reach.Filter
 
--- what is told of one list is so
+-- what is shown of one list is so
 abbrev pub IsListFault : List Row → ListFault → Type 0
 IsListFault rows lists.Memory = ⊤
 IsListFault rows (lists.Line place line) = (place ≡ 0) × (long_line rows ≡ Some line)

@@ -13,7 +13,7 @@ use Rattle.mq_reach.specs.Subscriptions.{world_of, world_then}
 use Rattle.mq_reach.specs.Subscriptions as spec
 use Rattle.mq_reach.specs.Tracked.{TrackedSubscription, subscription_views}
 use Rattle.mq_reach.specs.Unqueued.{unqueued}
-use Rattle.mq_reach.specs.Vain.{AreVain, IsReached, IsVain}
+use Rattle.mq_reach.specs.Unreached.{AreUnreached, IsReached, IsUnreached}
 use Rattle.mq_reach.specs.declared.counts.Counts.{Counts}
 use Rattle.mq_reach.specs.declared.counts.LineKind.{LineKind}
 use Rattle.mq_reach.specs.declared.counts.LineKind.TheVariants as kinds
@@ -30,20 +30,20 @@ pub record AreCounted (all : List (List ℕ)) (c : Counts) : Type 0 where
   pub faulty : c.faulty ≡ length (faulty_lines all)
   pub first_faulty : c.first_faulty ≡ slice_get (faulty_lines all) 0
 
--- of a script with these lines the subscriptions in vain are told, and no others
+-- of a script with these lines the unreached subscriptions are shown, and no others
 pub record IsFound (list : AccessList) (lines : List (List ℕ)) (f : Findings) : Type 0 where
-  pub vain : AreVain list (subscriptions lines) (subscription_views f.vain.items)
+  pub unreached : AreUnreached list (subscriptions lines) (subscription_views f.unreached.items)
   pub counts : AreCounted lines f.counts
 
 -- ## A search on its way
 
--- this is how it is with a subscription: it is reached; or it is in vain so far, and open just where its session keeps it
+-- this is how it is with a subscription: it is reached; or it is unreached so far, and open just where its session keeps it
 abbrev pub IsTracked : AccessList → Kept → TrackedSubscription → Type 0
-IsTracked list kept t = (t.told ≡ kept.told)
+IsTracked list kept t = (t.shown ≡ kept.shown)
     × (((t.state ≡ states.Reached) × IsReached list kept)
-    ⊎ ((t.state ≡ (if kept.is_open then states.Open else states.Closed)) × IsVain list kept))
+    ⊎ ((t.state ≡ (if kept.is_open then states.Open else states.Closed)) × IsUnreached list kept))
 
--- of all these subscriptions those are tracked that were in vain as they were made; the others are reached
+-- of all these subscriptions those are tracked that were unreached as they were made; the others are reached
 abbrev pub AreTracked : AccessList → (all : List Kept) → List TrackedSubscription → Type 0
 AreTracked list [] tracked = tracked ≡ []
 AreTracked list (kept ∷ all) tracked =
@@ -73,14 +73,14 @@ pub record Applies (list : AccessList) (command : Option Request) (old new : Sea
       → AreTracked list (subscriptions (lines ++ line ∷ [])) new.tracked
   pub counts : new.counts ≡ old.counts
 
--- what is told of what a command of this line makes, where these are the sessions
-abbrev pub told_by : ℕ → List Session → Request → Option spec.Subscription
-told_by line sessions (Subscribe client text options) =
+-- what is shown of what a command of this line makes, where these are the sessions
+abbrev pub shown_by : ℕ → List Session → Request → Option spec.Subscription
+shown_by line sessions (Subscribe client text options) =
     if is_client_id client && is_connected sessions client && is_subscription text
     && not (is_shared text && options.no_local)
     then Some (record { line = line; client = client; user = user_of sessions client; filter = text })
     else None
-told_by line sessions request = None
+shown_by line sessions request = None
 
 abbrev pub kind_of : Option spec.Subscription → Result (Option Request) LineFault → LineKind
 kind_of made (Err fault) = kinds.NoCommand

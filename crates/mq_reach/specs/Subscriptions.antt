@@ -15,7 +15,7 @@ use Rattle.mq_jsonl.specs.Lines.{command_in}
 use Rattle.mq_jsonl.specs.Reading.{reading}
 use Rattle.mq_jsonl.specs.declared.fault.LineFault.{LineFault}
 
--- what is told of a subscription; the user name, or none, is that of its client as it subscribes
+-- what is shown of a subscription; the user name, or none, is that of its client as it subscribes
 pub record Subscription : Type 0 where
   pub line : ℕ
   pub client : Text
@@ -25,7 +25,7 @@ pub record Subscription : Type 0 where
 -- and the user names of its client's session while that keeps it, the one as it subscribes first; and whether it still
 -- keeps it at the end of the script
 pub record Kept : Type 0 where
-  pub told : Subscription
+  pub shown : Subscription
   pub users : List (Option Text)
   pub is_open : Bool
 
@@ -81,7 +81,7 @@ abbrev pub made_by : ℕ → World → Request → List Request → Option Kept
 made_by line w (Subscribe client text options) later =
     if is_taken w (Subscribe client text options)
     then Some (record {
-      told = record { line = line; client = client; user = user_of w.sessions client; filter = text };
+      shown = record { line = line; client = client; user = user_of w.sessions client; filter = text };
       users = users_from (subscription_of client text options)
           (next w (Subscribe client text options)) later;
       is_open = stays_through (subscription_of client text options)

@@ -1,4 +1,4 @@
--- The subscriptions that are in vain so far.
+-- The subscriptions that are unreached so far.
 use Rattle.std.specs.Prelude.{◌≡◌, ◌⊎◌, ℕ, ◌+◌, Bool, true, false, List, [], ◌∷◌, ◌&&◌, map}
 use Rattle.std.specs.Prelude.{Option, Some, None, IsTrue, slice_get, string_bytes, if◌then◌else◌}
 use Rattle.std.specs.BTreeMap.{get_by_text}
@@ -27,16 +27,16 @@ subscription_view s = record {
 abbrev pub subscription_views : List Subscription → List spec.Subscription
 subscription_views all = map subscription_view all
 
--- a subscription that was in vain as it was made, and how it is with it
+-- a subscription that was unreached as it was made, and how it is with it
 pub record TrackedSubscription : Type 0 where
-  pub told : spec.Subscription
+  pub shown : spec.Subscription
   pub state : State
 
 abbrev pub entry_view : Entry → TrackedSubscription
-entry_view entry = record { told = subscription_view entry.subscription; state = entry.state }
+entry_view entry = record { shown = subscription_view entry.subscription; state = entry.state }
 
 abbrev pub tracked_of : Subscription → TrackedSubscription
-tracked_of s = record { told = subscription_view s; state = Open }
+tracked_of s = record { shown = subscription_view s; state = Open }
 
 abbrev pub tracked_in : in_tracked.Inside → List TrackedSubscription
 tracked_in inside = map entry_view inside.entries.items
@@ -47,7 +47,7 @@ is_open Closed = false
 is_open Reached = false
 
 abbrev pub is_open_of : Text → TrackedSubscription → Bool
-is_open_of client t = is_open t.state && same_text t.told.client client
+is_open_of client t = is_open t.state && same_text t.shown.client client
 
 -- the places of those that pass, from this number on
 abbrev pub places_from : ℕ → (TrackedSubscription → Bool) → List TrackedSubscription → List ℕ
@@ -68,7 +68,7 @@ is_open_at ts place = option_map_or (λ t. is_open t.state) (slice_get ts place)
 -- ## What becomes of one
 -- it is to this filter; without one, whatever it is to
 abbrev pub is_to : Option Text → TrackedSubscription → Bool
-is_to filter t = option_map_or (same_text t.told.filter) filter true
+is_to filter t = option_map_or (same_text t.shown.filter) filter true
 
 abbrev pub closed_if : Bool → TrackedSubscription → TrackedSubscription
 closed_if true t = record t { state = Closed }
@@ -76,22 +76,22 @@ closed_if false t = t
 
 abbrev pub closed_one : Text → Text → TrackedSubscription → TrackedSubscription
 closed_one client filter t =
-    closed_if (is_open_of client t && same_text t.told.filter filter) t
+    closed_if (is_open_of client t && same_text t.shown.filter filter) t
 
 abbrev pub closed_all : Text → TrackedSubscription → TrackedSubscription
 closed_all client t = closed_if (is_open_of client t) t
 
--- asked whether it is in vain under this user name too, or under none, it stays as it is, or it is reached
+-- asked whether it is unreached under this user name too, or under none, it stays as it is, or it is reached
 abbrev pub IsAsked : AccessList → Option Text → (old new : TrackedSubscription) → Type 0
 IsAsked list user old new =
-    ((new ≡ old) × ReadsNone list old.told.client user (filter_part old.told.filter))
+    ((new ≡ old) × ReadsNone list old.shown.client user (filter_part old.shown.filter))
     ⊎ ((new ≡ record old { state = Reached })
     × ((topic : List ℕ) × IsTrue (is_name topic)
-    × Reads list old.told.client user (filter_part old.told.filter) topic))
+    × Reads list old.shown.client user (filter_part old.shown.filter) topic))
 
 -- it is the same subscription
 abbrev pub IsOf : (old new : TrackedSubscription) → Type 0
-IsOf old new = new.told ≡ old.told
+IsOf old new = new.shown ≡ old.shown
 
 -- where one passes, this becomes of it, and the others stay as they are
 abbrev pub Where : (TrackedSubscription → Bool)
@@ -104,9 +104,9 @@ abbrev pub Asks : AccessList → Text → Option Text → (old new : List Tracke
 Asks list client user old new =
     AllZip (Where (is_open_of client) (IsAsked list user)) old new
 
--- ## What is told
-abbrev pub told_of : TrackedSubscription → Option spec.Subscription
-told_of t = elim t.state [ Open ↦ Some t.told | Closed ↦ Some t.told | Reached ↦ None ]
+-- ## What is shown
+abbrev pub shown_of : TrackedSubscription → Option spec.Subscription
+shown_of t = elim t.state [ Open ↦ Some t.shown | Closed ↦ Some t.shown | Reached ↦ None ]
 
-abbrev pub vain_of : List TrackedSubscription → List spec.Subscription
-vain_of all = filter_map told_of all
+abbrev pub unreached_of : List TrackedSubscription → List spec.Subscription
+unreached_of all = filter_map shown_of all

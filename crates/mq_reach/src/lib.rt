@@ -24,6 +24,6 @@ pub use fault::ReachFault;
 pub use log::begins_as_log;
 pub use question::SearchFault;
 pub use reach::Reach;
-pub use reading::{ScriptFault, find_vain};
+pub use reading::{ScriptFault, find_unreached};
 pub use search::Findings;
 pub use subscription::Subscription;

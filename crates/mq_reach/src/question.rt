@@ -89,16 +89,16 @@ pub(crate) fn list_of(alloc: Global, rules: Rules, rows: &[Row]) -> Result<Reach
 }
 
 /// Whether the client of a subscription, under this user name or none, may read no topic that its filter matches.
-pub(crate) fn is_vain(
+pub(crate) fn is_unreached(
     alloc: Global,
     list: &Reach,
     subscription: &Subscription,
     user: Option<&str>,
 ) -> Result<bool, SearchFault>
-    ensures vain { IfOk result (λ vain. vain ≡ true → ReadsNone list.now
+    ensures unreached { IfOk result (λ unreached. unreached ≡ true → ReadsNone list.now
         (string_bytes subscription.now.client) (option_copied user.entry)
         (filter_part (string_bytes subscription.now.filter))) }
-    ensures reached { IfOk result (λ vain. vain ≡ false → (topic : List ℕ)
+    ensures reached { IfOk result (λ unreached. unreached ≡ false → (topic : List ℕ)
         × IsTrue (is_name topic) × Reads list.now (string_bytes subscription.now.client)
         (option_copied user.entry) (filter_part (string_bytes subscription.now.filter)) topic) }
     ensures err { IfErr result (IsAskFault list.now (subscription_view subscription.now)
@@ -106,8 +106,8 @@ pub(crate) fn is_vain(
 {
     let filter = filter_in(alloc, subscription.filter.as_str())?;
     let client = subscription.client.as_str();
-    match list.is_vain(alloc, client, user, &filter) {
-        Ok(vain) => Ok(vain),
+    match list.is_unreached(alloc, client, user, &filter) {
+        Ok(unreached) => Ok(unreached),
         Err(fault) => Err(fault_of(subscription, fault)),
     }
 }

@@ -186,16 +186,17 @@ impl<'a> Reach<'a> {
     }
 
     /// Whether the client may read no topic that the filter matches.
-    pub fn is_vain(
+    pub fn is_unreached(
         &self,
         alloc: Global,
         client: &str,
         user: Option<&str>,
         filter: &TopicFilter,
     ) -> Result<bool, ReachFault>
-        ensures vain { IfOk result (λ vain. vain ≡ true → ReadsNone self.now client.now
+        ensures unreached { IfOk result (λ unreached. unreached ≡ true
+            → ReadsNone self.now client.now
             (option_copied user.entry) filter.now) }
-        ensures reached { IfOk result (λ vain. vain ≡ false → (name : List ℕ)
+        ensures reached { IfOk result (λ unreached. unreached ≡ false → (name : List ℕ)
             × IsTrue (is_name name)
             × Reads self.now client.now (option_copied user.entry) filter.now name) }
         ensures fault { IfErr result (IsReachFault self.now client.now

@@ -155,7 +155,7 @@ fn read_lines<R: Read>(
 /// decide by these rules: those of a client that may read no topic that the filter matches. Who is
 /// connected with which user name, the commands of the script say; its `acl` lines say nothing
 /// here, and a line that is not a command is skipped, and counted.
-pub fn find_vain<R: Read>(
+pub fn find_unreached<R: Read>(
     alloc: Global,
     rules: Rules,
     rows: &[Row],

@@ -13,7 +13,7 @@ ghost use Rattle.mq_jsonl.specs.Reading.{reading};
 use crate::connections::{end_sessions, take_over};
 use crate::counts::{Counts, LineKind};
 use crate::log::begins_as_log;
-use crate::question::{SearchFault, is_taken, is_vain};
+use crate::question::{SearchFault, is_taken, is_unreached};
 use crate::reach::Reach;
 use crate::subscription::Subscription;
 use crate::tracked::Tracked;
@@ -27,7 +27,7 @@ use std::rc::RcStr;
 /// What is found in a script.
 pub struct Findings {
     /// The subscriptions that can receive nothing, in the order of their lines.
-    pub vain: Vec<Subscription>,
+    pub unreached: Vec<Subscription>,
     /// How many lines and subscriptions the script has.
     pub counts: Counts,
     /// Whether the first line begins as one of a log does.
@@ -38,7 +38,7 @@ pub struct Findings {
 impl Drop for Findings {
     fn drop(self) {
         let Findings {
-            vain: _,
+            unreached: _,
             counts: _,
             is_log: _,
         } = self;
@@ -73,7 +73,7 @@ impl Drop for Search {
 // What a line is counted as that says no command, for this fault.
 fn no_command(fault: LineFault) -> Result<LineKind, SearchFault>
     ensures ok { IfOk result (λ kind. (kind ≡ LineKind.NoCommand) × (fault ≢ LineFault.Memory)) }
-    ensures err { IfErr result (λ told. told ≡ SearchFault.Memory) }
+    ensures err { IfErr result (λ shown. shown ≡ SearchFault.Memory) }
 {
     match fault {
         LineFault::Memory => Err(SearchFault::Memory),
@@ -96,7 +96,7 @@ impl Search {
     ghost use Rattle.mq_acl.specs.AccessLists.{AccessList};
     ghost use Rattle.mq_reach.specs.Faults.{FailsBy, IsFaultAmong};
     ghost use Rattle.mq_reach.specs.Subscriptions.{subscriptions};
-    ghost use Rattle.mq_reach.specs.Search.{Applies, IsFound, IsSearched, kind_of, told_by};
+    ghost use Rattle.mq_reach.specs.Search.{Applies, IsFound, IsSearched, kind_of, shown_by};
     ghost use Rattle.mq_reach.specs.Tracked.{subscription_view};
 
     pub fn new(alloc: Global) -> Search
@@ -192,7 +192,7 @@ impl Search {
         requires { self.now.counts.lines + 1 < 2 ^ 64 }
         ensures { (options : SubscriptionOptions) → options.no_local ≡ no_local
             → IfOk result (λ made. option_map subscription_view made
-            ≡ told_by (self.now.counts.lines + 1) self.now.sessions
+            ≡ shown_by (self.now.counts.lines + 1) self.now.sessions
             (Subscribe (string_bytes client) (string_bytes filter) options)) }
     {
         if !self.is_connected(client.as_str()) {
@@ -225,7 +225,7 @@ impl Search {
             self.old self.new) }
         ensures kind { (options : SubscriptionOptions) → options.no_local ≡ no_local
             → let request = Subscribe (string_bytes client) (string_bytes filter) options in
-            IfOk result (λ kind. kind ≡ kind_of (told_by (self.old.counts.lines + 1)
+            IfOk result (λ kind. kind ≡ kind_of (shown_by (self.old.counts.lines + 1)
             self.old.sessions request) (Ok (Some request))) }
         ensures err { (options : SubscriptionOptions) → options.no_local ≡ no_local
             → IfErr result (FailsBy list.now (Some (Subscribe (string_bytes client)
@@ -236,8 +236,8 @@ impl Search {
         };
         self.tracked
             .close(subscription.client.as_str(), subscription.filter.as_str());
-        let vain = is_vain(alloc, list, &subscription, subscription.user.as_deref())?;
-        if !vain {
+        let unreached = is_unreached(alloc, list, &subscription, subscription.user.as_deref())?;
+        if !unreached {
             return Ok(LineKind::Subscription);
         }
         self.tracked.add(subscription)?;
@@ -266,7 +266,7 @@ impl Search {
     ) -> Result<LineKind, SearchFault>
         requires { self.old.counts.lines + 1 < 2 ^ 64 }
         ensures ok { OnOk result (Applies list.now (Some (request_of command)) self.old self.new) }
-        ensures kind { IfOk result (λ kind. kind ≡ kind_of (told_by (self.old.counts.lines + 1)
+        ensures kind { IfOk result (λ kind. kind ≡ kind_of (shown_by (self.old.counts.lines + 1)
             self.old.sessions (request_of command)) (Ok (Some (request_of command)))) }
         ensures err { IfErr result (FailsBy list.now (Some (request_of command)) self.old) }
     {
@@ -310,7 +310,8 @@ impl Search {
         ensures ok { OnOk result (Applies list.now (command_in (reading line.now)) self.old
             self.new) }
         ensures kind { IfOk result (λ kind. kind ≡ kind_of (option_and_then
-            (told_by (self.old.counts.lines + 1) self.old.sessions) (command_in (reading line.now)))
+            (shown_by (self.old.counts.lines + 1) self.old.sessions) (command_in
+            (reading line.now)))
             (reading line.now)) }
         ensures err { (before : List (List ℕ)) → IsSearched list.now before self.old
             → IfErr result (IsFaultAmong list.now (subscriptions (before ++ line.now ∷ []))) }
@@ -353,7 +354,7 @@ impl Search {
             is_log,
         } = self;
         Ok(Findings {
-            vain: tracked.vain(alloc)?,
+            unreached: tracked.unreached(alloc)?,
             counts,
             is_log,
         })

@@ -10,9 +10,9 @@ ghost use Rattle.mq_reach.specs.Tracked.{Asks, IsAsked, IsOf, TrackedSubscriptio
 ghost use Rattle.mq_reach.specs.Tracked.{closed_all};
 ghost use Rattle.mq_reach.specs.Tracked.{closed_if, closed_one, entry_view, is_open_at, is_open_of};
 ghost use Rattle.mq_reach.specs.Tracked.{is_to, places_from, subscription_view, subscription_views};
-ghost use Rattle.mq_reach.specs.Tracked.{told_of, tracked_of, vain_of};
+ghost use Rattle.mq_reach.specs.Tracked.{shown_of, tracked_of, unreached_of};
 
-use crate::question::{SearchFault, is_vain};
+use crate::question::{SearchFault, is_unreached};
 use crate::reach::Reach;
 use crate::subscription::Subscription;
 use std::alloc::{AllocError, Global};
@@ -64,15 +64,15 @@ impl Entry {
         ensures err { IfErr result (IsAskFault list.now (subscription_view self.old.subscription)
             (option_copied user.entry)) }
     {
-        if !is_vain(alloc, list, &self.subscription, user)? {
+        if !is_unreached(alloc, list, &self.subscription, user)? {
             self.state = State::Reached;
         }
         Ok(())
     }
 
     // The subscription, if it can receive nothing.
-    fn told(self) -> Option<Subscription>
-        ensures { option_map subscription_view result ≡ told_of (entry_view self) }
+    fn shown(self) -> Option<Subscription>
+        ensures { option_map subscription_view result ≡ shown_of (entry_view self) }
     {
         let Entry {
             subscription,
@@ -260,17 +260,18 @@ impl Tracked {
     }
 
     /// Those that can receive nothing, in the order of their lines.
-    pub fn vain(self, alloc: Global) -> Result<Vec<Subscription>, AllocError>
-        ensures { IfOk result (λ vain. subscription_views vain.items ≡ vain_of self) }
+    pub fn unreached(self, alloc: Global) -> Result<Vec<Subscription>, AllocError>
+        ensures { IfOk result (λ unreached. subscription_views unreached.items
+            ≡ unreached_of self) }
     {
         let Tracked { entries, open: _ } = self;
-        let mut vain = Vec::new(alloc);
+        let mut unreached = Vec::new(alloc);
         for entry in entries {
-            let Some(subscription) = entry.told() else {
+            let Some(subscription) = entry.shown() else {
                 continue;
             };
-            vain.push(subscription)?;
+            unreached.push(subscription)?;
         }
-        Ok(vain)
+        Ok(unreached)
     }
 }

@@ -170,7 +170,7 @@ met_is_hidden a b (inr h) n =
     ∙ met_hidden (levels b) (levels a) (levels-nonempty b) (levels-nonempty a) h n)
 
 -- ---- faults
--- what is told holds of more
+-- what is shown holds of more
 pub fault_by : (f : MeetFault) (a b : Bool) → (a ≡ true → b ≡ true) → IsFault f a → IsFault f b
 fault_by Memory a b g h = tt
 fault_by TooLong a b g h = g h

@@ -1,4 +1,4 @@
--- The filter of a list of levels, and names that are too short to tell it from the list.
+-- The filter of a list of levels, and names that are too short to be known from the list.
 use Rattle.std.proofs.Common.{◌≡◌, ◌==◌, ℕ, ◌<◌, ◌≤◌, Bool, true, false, cond, not, ◌&&◌}
 use Rattle.std.proofs.Common.{◌||◌, List, [], ◌∷◌, length, take, refl, ap, sym, ◌∙◌, arith, zero}
 use Rattle.std.proofs.Common.{suc}

@@ -41,7 +41,7 @@ is_long level = nat_lt 300 (length level)
 abbrev pub has_long : List (List ℕ) → Bool
 has_long ls = list_any is_long ls
 
--- what is told is so, where some level is long or none is
+-- what is shown is so, where some level is long or none is
 abbrev pub IsFault : MeetFault → Bool → Type 0
 IsFault Memory long = ⊤
 IsFault TooLong long = long ≡ true

@@ -61,10 +61,10 @@ groups_of-sorted rows = sorted-in_order group_cmp group_total
     (filter_map (λ (r : Row). group_of r.subscription) rows)
 
 -- the groups of rows are those of their subscriptions
-pub groups-told : (rows : List Row) → groups_among (map (λ (r : Row). r.subscription) rows)
+pub groups-shown : (rows : List Row) → groups_among (map (λ (r : Row). r.subscription) rows)
     ≡ groups_of rows
 unfolding groups_among groups_of
-groups-told rows = ap (in_order group_cmp)
+groups-shown rows = ap (in_order group_cmp)
     (filter_map-map group_of (λ (r : Row). r.subscription) rows)
 
 -- the group of a subscription is the one that it is in
@@ -140,16 +140,16 @@ in_matching topic g m (x ∷ xs) =
     ∙ sym (ap (λ b. cond b (x ∷ filter (is_in_group g) xs) (filter (is_in_group g) xs)) f))
 
 -- some element passes where the list of those that pass isn't empty, and only there
-pub told : {X : Type 0} (p : X → Bool) (zs : List X) → list_any p zs ≡ not (is_empty (filter p zs))
-told p [] = refl
-told p (z ∷ zs) =
+pub shown : {X : Type 0} (p : X → Bool) (zs : List X) → list_any p zs ≡ not (is_empty (filter p zs))
+shown p [] = refl
+shown p (z ∷ zs) =
     elim (p z) as (λ b. (b || list_any p zs)
-    ≡ not (is_empty (cond b (z ∷ filter p zs) (filter p zs)))) [ true ↦ refl | false ↦ told p zs ]
+    ≡ not (is_empty (cond b (z ∷ filter p zs) (filter p zs)))) [ true ↦ refl | false ↦ shown p zs ]
 
 -- if the same elements pass in both lists, some pass in both or in neither
 pub any-from_filter : {X : Type 0} (p : X → Bool) (xs ys : List X) → filter p xs ≡ filter p ys
     → list_any p xs ≡ list_any p ys
-any-from_filter p xs ys e = told p xs ∙ ap (λ l. not (is_empty l)) e ∙ sym (told p ys)
+any-from_filter p xs ys e = shown p xs ∙ ap (λ l. not (is_empty l)) e ∙ sym (shown p ys)
 
 filter_map-alike : {X Y : Type 0} (h k : X → Option Y) (q : X → Bool)
     → ((x : X) → q x ≡ true → h x ≡ k x) → (xs : List X)

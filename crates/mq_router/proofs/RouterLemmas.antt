@@ -363,7 +363,7 @@ unfolding refusal
 unsubscribe-accepted s id text h f =
     passed-behind (client_conditions s.sessions id) [] TopicFilter (is_subscription text) h f
 
--- an accepted unsubscribe is done: the subscription goes, and it is told if there was one
+-- an accepted unsubscribe is done: the subscription goes, and it says if there was one
 pub unsubscribe-does : (s : State) (id text : Text) (subs : SubscriptionsView) (reply : Reply)
     → IsAccepted s (Unsubscribe id text) reply
     → AreNext s subs
@@ -613,7 +613,7 @@ advance-does s seconds moment sessions subs kept reply is later next messages = 
 
 -- ## Counts
 
--- a stat is done if it tells the counts; it changes nothing
+-- a stat is done if it shows the counts; it changes nothing
 pub stat-does : (s : State) (reply : Reply)
     → reply ≡ record { copies = []; outcome = counts_now s } → Does s Stat reply s
 unfolding refusal

@@ -30,7 +30,7 @@ use Rattle.mq_world.proofs.Splits.{some_same}
 use Rattle.mq_subscriptions.proofs.TurnLemmas.{StampsBelow, by_turn-filter}
 use Rattle.mq_subscriptions.proofs.JoinTurn.{AreApart, stamps, apart-from, apart-to, turn-elements}
 use Rattle.mq_router.proofs.GroupLemmas.{group_tie, group_tied, groups_of-sorted}
-use Rattle.mq_subscriptions.proofs.OneServed.{told, Among, found_among, found_passes, alike}
+use Rattle.mq_subscriptions.proofs.OneServed.{shown, Among, found_among, found_passes, alike}
 use Rattle.mq_subscriptions.proofs.OneServed.{stamped, turned-elements, turned-group, turned-one}
 use Rattle.mq_subscriptions.proofs.OneServed.{apart-one}
 
@@ -165,11 +165,11 @@ restamped_in n g ss (r ∷ rows) =
 -- ## The world after a publish
 
 -- new stamps change no subscription
-pub restamped-told : (n : ℕ) (ss rows : List Row) → told (map (restamp n ss) rows) ≡ told rows
-restamped-told n ss [] = refl
-restamped-told n ss (r ∷ rows) =
-    ap (λ l. (restamp n ss r).subscription ∷ l) (restamped-told n ss rows)
-    ∙ ap (λ s. s ∷ told rows) (same_subscription (is_among ss r))
+pub restamped-shown : (n : ℕ) (ss rows : List Row) → shown (map (restamp n ss) rows) ≡ shown rows
+restamped-shown n ss [] = refl
+restamped-shown n ss (r ∷ rows) =
+    ap (λ l. (restamp n ss r).subscription ∷ l) (restamped-shown n ss rows)
+    ∙ ap (λ s. s ∷ shown rows) (same_subscription (is_among ss r))
   where
     same_subscription : (b : Bool) → (if b then stamped n r else r).subscription ≡ r.subscription
     same_subscription true = refl
@@ -190,9 +190,9 @@ rows_restamped n ss g rows =
     (λ r. sym (restamped-group n ss g r)) rows)
     ∙ map-filter (restamp n ss) (λ r. is_in_group g r.subscription) rows)
 
-told_group : (g : Group) (rows : List Row)
-    → filter (is_in_group g) (told rows) ≡ told (rows_in g rows)
-told_group g rows = sym (map-filter (λ (r : Row). r.subscription) (is_in_group g) rows)
+shown_group : (g : Group) (rows : List Row)
+    → filter (is_in_group g) (shown rows) ≡ shown (rows_in g rows)
+shown_group g rows = sym (map-filter (λ (r : Row). r.subscription) (is_in_group g) rows)
 
 module _ (w : World) (h : IsWorld w) (m : Message) where
   abbrev can : Text → Bool
@@ -246,11 +246,11 @@ module _ (w : World) (h : IsWorld w) (m : Message) where
         (one_restamped r rows)
 
     group_by : (e : Option Row) → E ≡ e
-        → told (by_turn (map (restamp w.accepted (one_or_none e)) G))
-        ≡ all_turned (told (one_or_none e)) (told (by_turn G))
-    group_by None is = ap (λ l. told (by_turn l)) (none_restamped G)
+        → shown (by_turn (map (restamp w.accepted (one_or_none e)) G))
+        ≡ all_turned (shown (one_or_none e)) (shown (by_turn G))
+    group_by None is = ap (λ l. shown (by_turn l)) (none_restamped G)
     group_by (Some r) is =
-        ap (λ l. told (by_turn l)) (one_restamped r G)
+        ap (λ l. shown (by_turn l)) (one_restamped r G)
         ∙ turned-one w.accepted G G_sorted G_below r
         (turn_among can w.rows g r (turn_if (has can w.rows g matching) r is))
 
@@ -270,33 +270,33 @@ module _ (w : World) (h : IsWorld w) (m : Message) where
         (sym (rows_restamped w.accepted S g w.rows ∙ restamped_in w.accepted g S w.rows
         ∙ ap (λ l. map (restamp w.accepted l) G) few_is)) (apart_by E refl))
 
-    served_group : filter (is_in_group g) (all_turned (told S) (in_turn w))
-        ≡ filter (is_in_group g) (told (by_turn (map (restamp w.accepted S) w.rows)))
+    served_group : filter (is_in_group g) (all_turned (shown S) (in_turn w))
+        ≡ filter (is_in_group g) (shown (by_turn (map (restamp w.accepted S) w.rows)))
     served_group =
-        turned-group g (told S) (in_turn w)
+        turned-group g (shown S) (in_turn w)
         ∙ ap (λ l. all_turned l (filter (is_in_group g) (in_turn w)))
-        (told_group g S ∙ ap told few_is)
-        ∙ ap (all_turned (told (one_or_none E)))
-        (told_group g (by_turn w.rows)
-        ∙ ap told (sym (by_turn-filter (λ o. is_in_group g o.subscription) w.rows)))
+        (shown_group g S ∙ ap shown few_is)
+        ∙ ap (all_turned (shown (one_or_none E)))
+        (shown_group g (by_turn w.rows)
+        ∙ ap shown (sym (by_turn-filter (λ o. is_in_group g o.subscription) w.rows)))
         ∙ sym (group_by E refl)
-        ∙ ap (λ l. told (by_turn l))
+        ∙ ap (λ l. shown (by_turn l))
         (sym (rows_restamped w.accepted S g w.rows ∙ restamped_in w.accepted g S w.rows
         ∙ ap (λ l. map (restamp w.accepted l) G) few_is))
-        ∙ ap told (by_turn-filter (λ o. is_in_group g o.subscription)
+        ∙ ap shown (by_turn-filter (λ o. is_in_group g o.subscription)
         (map (restamp w.accepted S) w.rows))
-        ∙ sym (told_group g (by_turn (map (restamp w.accepted S) w.rows)))
+        ∙ sym (shown_group g (by_turn (map (restamp w.accepted S) w.rows)))
 
-  told-elements : (rows : List Row) → SameElements (told (by_turn rows)) (told rows)
-  told-elements rows = SameElements-map (λ (r : Row). r.subscription) (by_turn rows) rows
+  shown-elements : (rows : List Row) → SameElements (shown (by_turn rows)) (shown rows)
+  shown-elements rows = SameElements-map (λ (r : Row). r.subscription) (by_turn rows) rows
       (turn-elements rows)
 
-  pub serves : SameInTurn (all_turned (told S) (in_turn w))
-      (told (by_turn (map (restamp w.accepted S) w.rows)))
+  pub serves : SameInTurn (all_turned (shown S) (in_turn w))
+      (shown (by_turn (map (restamp w.accepted S) w.rows)))
   serves = record {
-    elements = λ p. turned-elements (told S) (in_turn w) p ∙ told-elements w.rows p
-        ∙ ap (λ l. length (filter p l)) (sym (restamped-told w.accepted S w.rows))
-        ∙ sym (told-elements (map (restamp w.accepted S) w.rows) p);
+    elements = λ p. turned-elements (shown S) (in_turn w) p ∙ shown-elements w.rows p
+        ∙ ap (λ l. length (filter p l)) (sym (restamped-shown w.accepted S w.rows))
+        ∙ sym (shown-elements (map (restamp w.accepted S) w.rows) p);
     members = served_group;
   }
 

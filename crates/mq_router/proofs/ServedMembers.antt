@@ -37,7 +37,7 @@ use Rattle.mq_world.proofs.BoolLemmas.{pick}
 use Rattle.mq_world.proofs.OrderLemmas.{same_text-is, same_text-itself}
 use Rattle.mq_subscriptions.proofs.TextMaps.{is_text-is, key_text}
 use Rattle.mq_subscriptions.proofs.AscendingLemmas.{by_each_key, none_there}
-use Rattle.mq_router.proofs.GroupLemmas.{group_tie, group_tied, groups-sorted, groups-any, told}
+use Rattle.mq_router.proofs.GroupLemmas.{group_tie, group_tied, groups-sorted, groups-any, shown}
 use Rattle.mq_router.proofs.GroupLemmas.{any-from_filter}
 use Rattle.mq_subscriptions.specs.declared.subscriptions.turn.Turn.{Turn}
 
@@ -200,11 +200,11 @@ found_matches topic g (a ∷ ats) m t =
 
 some_member : (p q : Subscription → Bool) (xs : List Subscription)
     → is_some (find p (filter q xs)) ≡ true → list_any q xs ≡ true
-some_member p q xs h = any-told (filter q xs) refl
+some_member p q xs h = any-shown (filter q xs) refl
   where
-    any-told : (l : List Subscription) → filter q xs ≡ l → list_any q xs ≡ true
-    any-told [] e = absurd (true≢false (sym (sym (ap (λ l. is_some (find p l)) e) ∙ h)))
-    any-told (y ∷ l) e = told q xs ∙ ap (λ l. not (is_empty l)) e
+    any-shown : (l : List Subscription) → filter q xs ≡ l → list_any q xs ≡ true
+    any-shown [] e = absurd (true≢false (sym (sym (ap (λ l. is_some (find p l)) e) ∙ h)))
+    any-shown (y ∷ l) e = shown q xs ∙ ap (λ l. not (is_empty l)) e
 
 turns_of_each : (turns : List Turn) (T : Text → List Subscription)
     → ((share : Text) → turns_listed share turns ≡ T share) → (shares : List Text)

@@ -47,9 +47,9 @@ use Rattle.mq_subscriptions.proofs.InTurn.{same-is, same-then, same-filter, join
 use Rattle.mq_subscriptions.proofs.InTurn.{all_turned-same}
 use Rattle.mq_subscriptions.proofs.TurnLemmas.{by_turn-filter, least-is}
 use Rattle.mq_subscriptions.proofs.JoinTurn.{turn-elements, joins}
-use Rattle.mq_subscriptions.proofs.OneServed.{told}
+use Rattle.mq_subscriptions.proofs.OneServed.{shown}
 use Rattle.mq_router.proofs.ServeTurn.{serves}
-use Rattle.mq_router.proofs.GroupLemmas.{groups-same, groups-told}
+use Rattle.mq_router.proofs.GroupLemmas.{groups-same, groups-shown}
 use Rattle.mq_subscriptions.proofs.KeyLemmas.{filters-same}
 use Rattle.mq_router.proofs.SameCopies.{unshared_copies-same, begins_to_wait-same, waiting_after-same}
 use Rattle.mq_router.proofs.NextLemmas.{gone, after-is_world}
@@ -62,8 +62,8 @@ use Rattle.mq_world.specs.declared.refusal.Refusal.TheVariants.{SharedNoLocal, N
 use Rattle.mq_world.specs.declared.refusal.Refusal.TheVariants.{RetainedFull, ClockTooFar}
 
 -- the subscriptions in turn are those of the rows
-turn_told : (w : World) → SameElements (in_turn w) (subscriptions_of w)
-turn_told w = SameElements-map (λ (r : Row). r.subscription) (by_turn w.rows) w.rows
+turn_shown : (w : World) → SameElements (in_turn w) (subscriptions_of w)
+turn_shown w = SameElements-map (λ (r : Row). r.subscription) (by_turn w.rows) w.rows
     (turn-elements w.rows)
 
 -- the state has the limits, moment, access rows, sessions and retained messages of the world, and its subscriptions in turn
@@ -77,8 +77,8 @@ pub record HasRows (s : State) (w : World) : Type 0 where
   pub retained : s.retained ≡ w.retained
 
 module _ (s : State) (w : World) (h : HasRows s w) where
-  all_told : SameElements s.subscriptions (subscriptions_of w)
-  all_told = λ p. h.subscriptions.elements p ∙ turn_told w p
+  all_shown : SameElements s.subscriptions (subscriptions_of w)
+  all_shown = λ p. h.subscriptions.elements p ∙ turn_shown w p
 
   -- ## Refusals
 
@@ -116,16 +116,16 @@ module _ (s : State) (w : World) (h : HasRows s w) where
 
   -- ## Who is served
 
-  told_find : (p : Subscription → Bool) (rows : List Row)
+  shown_find : (p : Subscription → Bool) (rows : List Row)
       → option_map (λ (r : Row). r.subscription) (find (λ (r : Row). p r.subscription) rows)
-      ≡ find p (told rows)
-  told_find p [] = refl
-  told_find p (r ∷ rows) =
+      ≡ find p (shown rows)
+  shown_find p [] = refl
+  shown_find p (r ∷ rows) =
       elim (p r.subscription) as (λ b. option_map (λ (o : Row). o.subscription)
       (cond b (Some r) (find (λ (o : Row). p o.subscription) rows))
-      ≡ cond b (Some r.subscription) (find p (told rows))) [
+      ≡ cond b (Some r.subscription) (find p (shown rows))) [
         | true ↦ refl
-        | false ↦ told_find p rows
+        | false ↦ shown_find p rows
       ]
 
   turn-held : (topic : Text) (g : Group) → next_in s.access s.sessions s.subscriptions topic g
@@ -138,14 +138,14 @@ module _ (s : State) (w : World) (h : HasRows s w) where
       (filter (is_in_group g) s.subscriptions)) h.sessions
       ∙ ap (find able) (h.subscriptions.members g
       ∙ sym (map-filter (λ (r : Row). r.subscription) (is_in_group g) (by_turn w.rows))
-      ∙ ap told (sym (by_turn-filter (λ r. is_in_group g r.subscription) w.rows)))
-      ∙ sym (told_find able (by_turn (rows_in g w.rows)))
+      ∙ ap shown (sym (by_turn-filter (λ r. is_in_group g r.subscription) w.rows)))
+      ∙ sym (shown_find able (by_turn (rows_in g w.rows)))
       ∙ ap (option_map (λ (r : Row). r.subscription))
       (sym (least-is (λ r. able r.subscription) (rows_in g w.rows)))
 
   each_turn : (topic : Text) (gs : List Group)
       → filter_map (next_in s.access s.sessions s.subscriptions topic) gs
-      ≡ told (filter_map (turn_of (can_be_served w topic) w.rows) gs)
+      ≡ shown (filter_map (turn_of (can_be_served w topic) w.rows) gs)
   each_turn topic [] = refl
   each_turn topic (g ∷ gs) =
       ap (λ o. cons_option o (filter_map (next_in s.access s.sessions s.subscriptions topic) gs))
@@ -155,20 +155,20 @@ module _ (s : State) (w : World) (h : HasRows s w) where
       ∙ onto (turn_of (can_be_served w topic) w.rows g)
     where
       onto : (o : Option Row) → cons_option (option_map (λ (r : Row). r.subscription) o)
-          (told (filter_map (turn_of (can_be_served w topic) w.rows) gs))
-          ≡ told (cons_option o (filter_map (turn_of (can_be_served w topic) w.rows) gs))
+          (shown (filter_map (turn_of (can_be_served w topic) w.rows) gs))
+          ≡ shown (cons_option o (filter_map (turn_of (can_be_served w topic) w.rows) gs))
       onto None = refl
       onto (Some r) = refl
 
   pub served-held : (m : Message) → next_members s.access s.sessions s.subscriptions m
-      ≡ told (served_by w m)
+      ≡ shown (served_by w m)
   unfolding next_members served_rows
   served-held m =
       let q : Group → Bool = λ group. filter_matches group.filter m.topic in
       ap (filter_map (next_in s.access s.sessions s.subscriptions m.topic))
       (groups-same q s.subscriptions (subscriptions_of w)
       (λ g t. list_any-SameElements (is_in_group g) s.subscriptions (subscriptions_of w)
-      all_told) ∙ ap (filter q) (groups-told w.rows))
+      all_shown) ∙ ap (filter q) (groups-shown w.rows))
       ∙ each_turn m.topic (filter q (groups_of w.rows))
 
   -- ## Answers
@@ -189,7 +189,7 @@ module _ (s : State) (w : World) (h : HasRows s w) where
   sent-held new =
       let exists : Bool = list_any (same_key new) (subscriptions_of w) in
       ap (sent_by s.moment s.access s.sessions s.retained new)
-      (list_any-SameElements (same_key new) s.subscriptions (subscriptions_of w) all_told)
+      (list_any-SameElements (same_key new) s.subscriptions (subscriptions_of w) all_shown)
       ∙ ap (λ moment. sent_by moment s.access s.sessions s.retained new exists) h.moment
       ∙ ap (λ access. sent_by w.moment access s.sessions s.retained new exists) h.access
       ∙ ap (λ sessions. sent_by w.moment w.access sessions s.retained new exists) h.sessions
@@ -209,23 +209,23 @@ module _ (s : State) (w : World) (h : HasRows s w) where
       ∙ ap (λ sessions. begins_to_wait w.limits.queued w.access sessions s.subscriptions m)
       h.sessions
       ∙ begins_to_wait-same w.limits.queued w.access w.sessions s.subscriptions (subscriptions_of w)
-      m all_told
+      m all_shown
 
   pub answer-held : counts_now s ≡ counts w → (request : Request)
       → reply_to s request ≡ answer w request
   unfolding answer
-  answer-held told (Connect id user clean interval) =
+  answer-held shown (Connect id user clean interval) =
       ap (λ moment. resumed_reply moment s.sessions id clean) h.moment
       ∙ ap (λ ss. resumed_reply w.moment ss id clean) h.sessions
-  answer-held told (Disconnect id) = refl
-  answer-held told (Subscribe id text options) =
+  answer-held shown (Disconnect id) = refl
+  answer-held shown (Subscribe id text options) =
       ap (λ copies. record { copies = copies; outcome = Reason options.qos })
       (sent-held (subscription_of id text options))
-  answer-held told (Unsubscribe id text) =
+  answer-held shown (Unsubscribe id text) =
       ap (λ b. reason (if b then 0 else 17))
       (list_any-SameElements (has_key id (share_of text) (filter_part text)) s.subscriptions
-      (subscriptions_of w) all_told)
-  answer-held told (Publish m) =
+      (subscriptions_of w) all_shown)
+  answer-held shown (Publish m) =
       let members : List Subscription = next_members s.access s.sessions s.subscriptions m in
       ap (λ copies. publish_reply copies
       (begins_to_wait s.limits.queued s.access s.sessions s.subscriptions m))
@@ -235,34 +235,34 @@ module _ (s : State) (w : World) (h : HasRows s w) where
       ++ map (member_copy m) members) h.sessions
       ∙ ap (λ l. l ++ map (member_copy m) members)
       (unshared_copies-same w.access (connected w.sessions) s.subscriptions (subscriptions_of w) m
-      all_told)
+      all_shown)
       ∙ ap (λ l. unshared_copies w.access (connected w.sessions) (subscriptions_of w) m
       ++ map (member_copy m) l) (served-held m)
       ∙ ap (λ l. unshared_copies w.access (connected w.sessions) (subscriptions_of w) m ++ l)
       (map-map (member_copy m) (λ (r : Row). r.subscription) (served_by w m)))
       ∙ ap (publish_reply (copies_of w m)) (waits-held m)
-  answer-held told (SetAcl text) = refl
-  answer-held told (Advance seconds) = refl
-  answer-held told Stat = ap (λ outcome. record { copies = []; outcome = outcome }) told
+  answer-held shown (SetAcl text) = refl
+  answer-held shown (Advance seconds) = refl
+  answer-held shown Stat = ap (λ outcome. record { copies = []; outcome = outcome }) shown
 
   -- ## The next world
 
   kept_rows : (q : Subscription → Bool)
       → SameInTurn (filter q s.subscriptions)
-      (told (by_turn (filter (λ r. q r.subscription) w.rows)))
+      (shown (by_turn (filter (λ r. q r.subscription) w.rows)))
   kept_rows q =
       same-then _ _ _ (same-filter q s.subscriptions (in_turn w) h.subscriptions)
       (same-is _ _ (sym (map-filter (λ (r : Row). r.subscription) q (by_turn w.rows))
-      ∙ ap told (sym (by_turn-filter (λ r. q r.subscription) w.rows))))
+      ∙ ap shown (sym (by_turn-filter (λ r. q r.subscription) w.rows))))
 
   -- the rows after a connect, by whether it resumes
   left_rows : (id : Text) (a b : Bool) → a ≡ b
       → SameInTurn (if a then s.subscriptions else without id s.subscriptions)
-      (told (by_turn (if b then w.rows else without_client id w.rows)))
+      (shown (by_turn (if b then w.rows else without_client id w.rows)))
   left_rows id a b e =
       let P : Bool → Bool → Type 0 = λ a b. SameInTurn
       (if a then s.subscriptions else without id s.subscriptions)
-      (told (by_turn (if b then w.rows else without_client id w.rows))) in
+      (shown (by_turn (if b then w.rows else without_client id w.rows))) in
       subst (P a) e (elim a as (λ a. P a a)
       [ true ↦ h.subscriptions | false ↦ kept_rows (λ x. not (same_text x.client id)) ])
 
@@ -347,7 +347,7 @@ module _ (s : State) (w : World) (h : HasRows s w) where
         s.sessions) h.moment
         ∙ ap (map (waiting_after w.limits.queued w.access s.subscriptions w.moment m)) h.sessions
         ∙ waiting_after-same w.limits.queued w.access w.sessions s.subscriptions
-        (subscriptions_of w) w.moment m all_told;
+        (subscriptions_of w) w.moment m all_shown;
     subscriptions = same-then _ _ _
         (all_turned-same (next_members s.access s.sessions s.subscriptions m) s.subscriptions
         (in_turn w) h.subscriptions)
@@ -407,7 +407,7 @@ filed-holds s w h filed = record {
   subscriptions = h.subscriptions;
   retained = h.retained;
   filter_keys = filed.filter_keys ∙ filters-same s.subscriptions (subscriptions_of w)
-      (λ p. h.subscriptions.elements p ∙ turn_told w p);
+      (λ p. h.subscriptions.elements p ∙ turn_shown w p);
   topic_keys = filed.topic_keys ∙ ap topics_of h.retained;
   deadlines = subst (λ (retained : List Retained). Indexes s.deadlines retained) h.retained
       filed.deadlines;
@@ -430,7 +430,7 @@ unfolding filters_of
 holds-filed s w h = record {
   filter_keys = h.filter_keys
       ∙ sym (filters-same s.subscriptions (subscriptions_of w)
-      (λ p. h.subscriptions.elements p ∙ turn_told w p));
+      (λ p. h.subscriptions.elements p ∙ turn_shown w p));
   topic_keys = h.topic_keys ∙ ap topics_of (sym h.retained);
   deadlines = subst (λ (retained : List Retained). Indexes s.deadlines retained) (sym h.retained)
       h.deadlines;
@@ -442,7 +442,7 @@ counts-held : (s : State) (w : World) → Holds s w → counts_now s ≡ counts 
 unfolding counts
 counts-held s w h =
     let many : length s.subscriptions ≡ length w.rows =
-    length-SameElements s.subscriptions (subscriptions_of w) (all_told s w (holds-rows s w h))
+    length-SameElements s.subscriptions (subscriptions_of w) (all_shown s w (holds-rows s w h))
     ∙ length-map w.rows (λ (r : Row). r.subscription) in
     let by : List (List Text) → List (List Text) → ℕ → ℕ → Outcome = λ filters topics kept rows.
     Counts (capped (length (prefixes filters) + length (prefixes topics))) (capped kept)
@@ -469,7 +469,7 @@ steps-held s w h (Subscribe id text options) =
     let new : Subscription = subscription_of id text options in
     ap (λ exists. steps_by new exists s.retained)
     (list_any-SameElements (same_key new) s.subscriptions (subscriptions_of w)
-    (all_told s w (holds-rows s w h)))
+    (all_shown s w (holds-rows s w h)))
     ∙ ap (steps_by new (list_any (same_key new) (subscriptions_of w))) h.retained
 steps-held s w h (Unsubscribe id text) = refl
 steps-held s w h (Publish m) = ap (λ keys. length (met_by_name (levels m.topic) (prefixes keys)))
@@ -518,35 +518,36 @@ refused-refuses old request r why w h =
     ]
 
 -- a request that is applied to the state is answered for each world it stands for
-pub applied_answers : (old : State) (told request : Request) (result : Result Answer Refusal)
-    (new : State) → told ≡ request → Applied old told result new → AnswersFor old request result new
-applied_answers old told request result new is done =
+pub applied_answers : (old : State) (shown request : Request) (result : Result Answer Refusal)
+    (new : State) → shown ≡ request → Applied old shown result new
+    → AnswersFor old request result new
+applied_answers old shown request result new is done =
     subst (λ r. AnswersFor old r result new) is (each result done)
   where
-    each : (result : Result Answer Refusal) → Applied old told result new
-        → AnswersFor old told result new
-    each (Ok a) d = λ w h. done-answers old told (reply_of a) new d w h
-    each (Err r) why = λ w h. refused-refuses old told r why w h
+    each : (result : Result Answer Refusal) → Applied old shown result new
+        → AnswersFor old shown result new
+    each (Ok a) d = λ w h. done-answers old shown (reply_of a) new d w h
+    each (Err r) why = λ w h. refused-refuses old shown r why w h
 
 -- steps that are counted by the state are those of each world it stands for
-pub applied_counts : (old : State) (told request : Request) (result : Result Answer Refusal)
-    (before now : ℕ) → told ≡ request → CountsSteps old told result before now
+pub applied_counts : (old : State) (shown request : Request) (result : Result Answer Refusal)
+    (before now : ℕ) → shown ≡ request → CountsSteps old shown result before now
     → CountsFor old request result before now
 unfolding StandsFor
-applied_counts old told request result before now is done =
+applied_counts old shown request result before now is done =
     subst (λ r. CountsFor old r result before now) is (each result done)
   where
-    each : (result : Result Answer Refusal) → CountsSteps old told result before now
-        → CountsFor old told result before now
-    each (Ok a) adds = λ w h. adds ∙ ap (λ n. before + n) (steps-held old w h.0 told)
+    each : (result : Result Answer Refusal) → CountsSteps old shown result before now
+        → CountsFor old shown result before now
+    each (Ok a) adds = λ w h. adds ∙ ap (λ n. before + n) (steps-held old w h.0 shown)
     each (Err r) adds = λ w h. adds
 
 -- a request that takes no steps leaves their number as it was
-pub none_counted : (old : State) (told request : Request) (result : Result Answer Refusal) (n : ℕ)
-    → told ≡ request → steps_to old told ≡ 0 → CountsFor old request result n n
-none_counted old told request result n is none =
-    applied_counts old told request result n n is (each result)
+pub none_counted : (old : State) (shown request : Request) (result : Result Answer Refusal) (n : ℕ)
+    → shown ≡ request → steps_to old shown ≡ 0 → CountsFor old request result n n
+none_counted old shown request result n is none =
+    applied_counts old shown request result n n is (each result)
   where
-    each : (result : Result Answer Refusal) → CountsSteps old told result n n
+    each : (result : Result Answer Refusal) → CountsSteps old shown result n n
     each (Ok a) = omega (arith, none)
     each (Err r) = inr refl

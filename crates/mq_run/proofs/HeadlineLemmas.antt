@@ -11,7 +11,7 @@ use Rattle.mq_run.specs.Output.{output, Summarizes}
 use Rattle.mq_run.specs.Ending.{Seen, Watched, DidNotFail, Failed, Failures, Ending, EndsOver}
 use Rattle.mq_run.specs.Ending.{AnswersWhole}
 
--- all that a reader tells was given, where it is at its end
+-- all that a reader shows was given, where it is at its end
 pub whole : (a b : Option (List ℕ)) (script given : List ℕ) → a ≡ Some script → Consumes a b given
     → IsAtEnd b → given ≡ script
 whole None b script given e c end = absurd (let bad : None ≡ Some script = e in cc)
@@ -28,7 +28,7 @@ front (Some x) (Some y) script given e c =
     let same : x ≡ script = let f : Some x ≡ Some script = e in cc in
     rw (← same, c, length-append) (omega arith)
 
--- a writer that tells what it had taken has then taken the text after it
+-- a writer that shows what it had taken has then taken the text after it
 pub written : (a b : Option (List ℕ)) (before text : List ℕ) → a ≡ Some before → Appends a b text
     → b ≡ Some (before ++ text)
 written None b before text e c = absurd (let bad : None ≡ Some before = e in cc)
@@ -53,9 +53,9 @@ Ending-ok limit w summary seen to_come script before e f c h =
       subst (λ (s : List ℕ). Summarizes w s summary) all h.summary,
     )
 
--- the device told these bytes before, and none of its calls failed
+-- the device showed these bytes before, and none of its calls failed
 record IsHonest (device : Watched) (bytes : List ℕ) : Type 0 where
-  pub told : device.before ≡ Some bytes
+  pub so_far : device.before ≡ Some bytes
   pub well : DidNotFail device.calls
 
 -- the script is within the limit, and memory sufficed
@@ -63,7 +63,7 @@ record IsWithin (limit : ℕ) (script : List ℕ) (result : Result Summary RunFa
   pub bytes : length script ≤ limit
   pub memory : result ≡ Err fault.Memory → ⊥
 
--- where the devices tell their bytes and don't fail, and memory suffices, it ends well
+-- where the devices show their bytes and don't fail, and memory suffices, it ends well
 EndsOver-honest : (limit : ℕ) (w : World) (result : Result Summary RunFault)
     (reader writer : Watched) (script before : List ℕ)
     → EndsOver limit w result reader writer → IsHonest reader script → IsHonest writer before
@@ -71,13 +71,13 @@ EndsOver-honest : (limit : ℕ) (w : World) (result : Result Summary RunFault)
     → IsOkAnd result (λ summary. (writer.after ≡ Some (before ++ output w script))
     × Summarizes w script summary)
 EndsOver-honest limit w (Ok summary) reader writer script before end reads writes within =
-    Ending-ok limit w summary _ reader.before script before reads.told writes.told end.1 end.2
+    Ending-ok limit w summary _ reader.before script before reads.so_far writes.so_far end.1 end.2
 EndsOver-honest limit w (Err fault.Read) reader writer script before end reads writes within =
     absurd (failed_not reader.calls end.2.reader reads.well)
 EndsOver-honest limit w (Err fault.Write) reader writer script before end reads writes within =
     absurd (failed_not writer.calls end.2.writer writes.well)
 EndsOver-honest limit w (Err fault.TooMuch) reader writer script before end reads writes within =
-    let fits = front reader.before reader.after script end.0 reads.told end.1 in
+    let fits = front reader.before reader.after script end.0 reads.so_far end.1 in
     let over = end.2.over in
     let small = within.bytes in
     absurd (omega arith)
@@ -88,7 +88,7 @@ EndsOver-honest limit w (Err fault.Memory) reader writer script before end reads
 pub headline : (limit : ℕ) (w : World) (result : Result Summary RunFault)
     (reader writer : Watched) → EndsOver limit w result reader writer
     → AnswersWhole limit w result reader writer
-headline limit w result reader writer end = λ script before told taken small reads writes memory.
+headline limit w result reader writer end = λ script before so_far taken small reads writes memory.
     EndsOver-honest limit w result reader writer script before end
-    (record { told = told; well = reads }) (record { told = taken; well = writes })
+    (record { so_far = so_far; well = reads }) (record { so_far = taken; well = writes })
     (record { bytes = small; memory = memory })

@@ -15,7 +15,7 @@ use Rattle.mq_run.specs.Output.{world_after, text_of, is_refused, text_from, ref
 use Rattle.mq_run.specs.Output.{whole_output}
 use Rattle.mq_jsonl.specs.Lines.{all_lines, kept, last_piece, piece_line, pieces, whole_lines}
 use Rattle.mq_run.specs.Ending.{Seen, IsPrefix, AppendsSome, WritesLines, write_failures, Ending}
-use Rattle.mq_run.specs.Running.{world_then, Answered, Unanswered, Told, Stopped, Finished}
+use Rattle.mq_run.specs.Running.{world_then, Answered, Unanswered, SoFar, Stopped, Finished}
 use Rattle.mq_run.specs.Running.{StoppedLast}
 use Rattle.mq_jsonl.proofs.PieceLemmas.{whole_lines-feed, last_piece-feed, whole_lines-text}
 use Rattle.mq_jsonl.proofs.PieceLemmas.{last_piece-text, whole_lines-grown}
@@ -69,20 +69,20 @@ pub record HasJoined (xs : List ℕ) (n : ℕ) (p q : Progress) : Type 0 where
   pub line : q.line.items ≡ p.line.items ++ take (n - length p.line.items) xs
 
 -- where a text joins the line that is kept, no line ends, and nothing is written
-pub Told-text : (w : World) (g xs : List ℕ) (n : ℕ) (p q : Progress) (a b : Option (List ℕ))
-    → HasJoined xs n p q → Told w g p a b → Told w (g ++ xs) q a b
-Told-text w g xs n p q a b joined told =
+pub SoFar-text : (w : World) (g xs : List ℕ) (n : ℕ) (p q : Progress) (a b : Option (List ℕ))
+    → HasJoined xs n p q → SoFar w g p a b → SoFar w (g ++ xs) q a b
+SoFar-text w g xs n p q a b joined so_far =
     let same = whole_lines-text g xs joined.one in
     let text : p.line.items ++ take (n - length p.line.items) xs ≡ take kept (last_piece g ++ xs) =
     subst (λ (k : ℕ). p.line.items ++ take (k - length p.line.items) xs
     ≡ take kept (last_piece g ++ xs)) joined.room
-    (kept_more p.line.items (last_piece g) xs told.line) in
+    (kept_more p.line.items (last_piece g) xs so_far.line) in
     record {
-      stands = rw (same, joined.router) told.stands;
-      lines = rw (same, joined.summary) told.lines;
-      refused = rw (same, joined.summary) told.refused;
+      stands = rw (same, joined.router) so_far.stands;
+      lines = rw (same, joined.summary) so_far.lines;
+      refused = rw (same, joined.summary) so_far.refused;
       line = joined.line ∙ text ∙ ap (take kept) (sym (last_piece-text g xs joined.one));
-      written = rw same told.written;
+      written = rw same so_far.written;
     }
 
 -- ## A line feed
@@ -92,68 +92,70 @@ Appends-end : (a b c : Option (List ℕ)) (xs : List ℕ) → Appends a b xs →
 Appends-end a b c xs p q = subst (Appends a c) (append-nil xs) (Appends-trans a b c xs [] p q)
 
 -- the text of the line that is kept
-line_told : (w v : World) (g : List ℕ) (p : Progress) (a b : Option (List ℕ)) → Told w g p a b
+line_so_far : (w v : World) (g : List ℕ) (p : Progress) (a b : Option (List ℕ)) → SoFar w g p a b
     → text_of (p.summary.lines + 1) v p.line.items
     ≡ text_of (length (whole_lines g) + 1) v (last_piece g)
-line_told w v g p a b told =
-    ap (λ (k : ℕ). text_of (k + 1) v p.line.items) told.lines
-    ∙ ap (text_of (length (whole_lines g) + 1) v) told.line
+line_so_far w v g p a b so_far =
+    ap (λ (k : ℕ). text_of (k + 1) v p.line.items) so_far.lines
+    ∙ ap (text_of (length (whole_lines g) + 1) v) so_far.line
     ∙ text_of-kept (length (whole_lines g) + 1) v (last_piece g)
 
 -- whether it was refused
-line_refused : (w v : World) (g : List ℕ) (p : Progress) (a b : Option (List ℕ)) → Told w g p a b
+line_refused : (w v : World) (g : List ℕ) (p : Progress) (a b : Option (List ℕ)) → SoFar w g p a b
     → is_refused v p.line.items ≡ is_refused v (last_piece g)
-line_refused w v g p a b told = ap (is_refused v) told.line ∙ is_refused-kept v (last_piece g)
+line_refused w v g p a b so_far = ap (is_refused v) so_far.line ∙ is_refused-kept v (last_piece g)
 
-refused_told : (w : World) (g : List ℕ) (p q : Progress) (a b c d : Option (List ℕ))
-    → Told w g p a b → Answered (world_after w (whole_lines g)) p q c d
+refused_so_far : (w : World) (g : List ℕ) (p q : Progress) (a b c d : Option (List ℕ))
+    → SoFar w g p a b → Answered (world_after w (whole_lines g)) p q c d
     → q.summary.refused ≡ refused_from w [] (whole_lines g ++ last_piece g ∷ [])
-refused_told w g p q a b c d told done =
+refused_so_far w g p q a b c d so_far done =
     let v = world_after w (whole_lines g) in
     let count : ℕ = cond (is_refused v p.line.items) 1 0 in
     let same : count ≡ cond (is_refused v (last_piece g)) 1 0 =
-    ap (λ (t : Bool). cond {A = ℕ} t 1 0) (line_refused w v g p a b told) in
+    ap (λ (t : Bool). cond {A = ℕ} t 1 0) (line_refused w v g p a b so_far) in
     let e = refused_from-push w (whole_lines g) (last_piece g) in
-    let f = told.refused in
+    let f = so_far.refused in
     let h = done.refused in
     omega arith
 
-written_told : (w : World) (g : List ℕ) (p q : Progress) (a b c : Option (List ℕ)) → Told w g p a b
+written_so_far : (w : World) (g : List ℕ) (p q : Progress) (a b c : Option (List ℕ))
+    → SoFar w g p a b
     → Answered (world_after w (whole_lines g)) p q b c
     → Appends a c (text_from w [] (whole_lines g ++ last_piece g ∷ []))
-written_told w g p q a b c told done =
+written_so_far w g p q a b c so_far done =
     let v = world_after w (whole_lines g) in
     subst (Appends a c) (sym (text_from-push w (whole_lines g) (last_piece g)))
     (Appends-trans a b c (whole_output w g) (text_of (length (whole_lines g) + 1) v (last_piece g))
-    told.written (subst (Appends b c) (line_told w v g p a b told) done.written))
+    so_far.written (subst (Appends b c) (line_so_far w v g p a b so_far) done.written))
 
 -- once its line is answered, a line feed adds a whole line and nothing is kept
-pub Told-feed : (w : World) (g : List ℕ) (p q : Progress) (a b c : Option (List ℕ)) → Told w g p a b
+pub SoFar-feed : (w : World) (g : List ℕ) (p q : Progress) (a b c : Option (List ℕ))
+    → SoFar w g p a b
     → Answered (world_after w (whole_lines g)) p q b c
-    → q.summary.lines ≡ p.summary.lines + 1 → q.line.items ≡ [] → Told w (g ++ 10 ∷ []) q a c
-Told-feed w g p q a b c told done number empty =
+    → q.summary.lines ≡ p.summary.lines + 1 → q.line.items ≡ [] → SoFar w (g ++ 10 ∷ []) q a c
+SoFar-feed w g p q a b c so_far done number empty =
     let ls = whole_lines g in
     let v = world_after w ls in
     record {
       stands = rw (whole_lines-feed g, world_after-push w ls (last_piece g))
-          (subst (StandsFor q.router) (ap (world_then v) told.line
+          (subst (StandsFor q.router) (ap (world_then v) so_far.line
           ∙ world_then-kept v (last_piece g)) done.stands);
-      lines = let n = told.lines in rw (whole_lines-feed g, length-append) (omega arith);
-      refused = rw (whole_lines-feed g) (refused_told w g p q a b b c told done);
+      lines = let n = so_far.lines in rw (whole_lines-feed g, length-append) (omega arith);
+      refused = rw (whole_lines-feed g) (refused_so_far w g p q a b b c so_far done);
       line = empty ∙ sym (ap (take kept) (last_piece-feed g) ∙ take_all kept [] (omega arith));
-      written = rw (whole_lines-feed g) (written_told w g p q a b c told done);
+      written = rw (whole_lines-feed g) (written_so_far w g p q a b c so_far done);
     }
 
 -- a part of the text of the line that is kept
-part_told : (w : World) (g : List ℕ) (p : Progress) (a b c : Option (List ℕ)) → Told w g p a b
+part_so_far : (w : World) (g : List ℕ) (p : Progress) (a b c : Option (List ℕ)) → SoFar w g p a b
     → AppendsSome b c (text_of (p.summary.lines + 1) (world_after w (whole_lines g)) p.line.items)
     → AppendsSome a c (text_from w [] (whole_lines g ++ last_piece g ∷ []))
-part_told w g p a b c told h =
+part_so_far w g p a b c so_far h =
     let v = world_after w (whole_lines g) in
     let part : text_of (length (whole_lines g) + 1) v (last_piece g) ≡ h.0 ++ h.2.0 =
-    sym (line_told w v g p a b told) ∙ h.2.1 in (
+    sym (line_so_far w v g p a b so_far) ∙ h.2.1 in (
       whole_output w g ++ h.0,
-      Appends-trans a b c (whole_output w g) h.0 told.written h.1,
+      Appends-trans a b c (whole_output w g) h.0 so_far.written h.1,
       (
         h.2.0,
         text_from-push w (whole_lines g) (last_piece g) ∙ ap (λ l. whole_output w g ++ l) part
@@ -163,77 +165,79 @@ part_told w g p a b c told h =
 
 -- nothing more was written
 pub Stopped-memory : (w : World) (g : List ℕ) (p : Progress) (a b : Option (List ℕ))
-    → Told w g p a b → WritesLines w g a b
-Stopped-memory w g p a b told = (
+    → SoFar w g p a b → WritesLines w g a b
+Stopped-memory w g p a b so_far = (
   length (whole_lines g),
   omega arith,
-  rw (take_all (length (whole_lines g)) (whole_lines g) (omega arith)) told.written,
+  rw (take_all (length (whole_lines g)) (whole_lines g) (omega arith)) so_far.written,
 )
 
-memory_told : (w : World) (g : List ℕ) (p : Progress) (a b c : Option (List ℕ)) → Told w g p a b
+memory_so_far : (w : World) (g : List ℕ) (p : Progress) (a b c : Option (List ℕ)) → SoFar w g p a b
     → Appends b c [] → WritesLines w g a c
-memory_told w g p a b c told h = (
+memory_so_far w g p a b c so_far h = (
   length (whole_lines g),
   omega arith,
   rw (take_all (length (whole_lines g)) (whole_lines g) (omega arith))
-      (Appends-end a b c (whole_output w g) told.written h),
+      (Appends-end a b c (whole_output w g) so_far.written h),
 )
 
 -- where the line that a line feed ends isn't answered, the run stops among what was given
 pub Stopped-feed : (w : World) (g : List ℕ) (p : Progress) (a b c : Option (List ℕ)) (e : RunFault)
-    → Told w g p a b
+    → SoFar w g p a b
     → Unanswered (world_after w (whole_lines g)) p e b c → Stopped w (g ++ 10 ∷ []) e a c
-Stopped-feed w g p a b c fault.Read told h = h
-Stopped-feed w g p a b c fault.TooMuch told h = h
-Stopped-feed w g p a b c fault.Write told h = rw (whole_lines-feed g) (part_told w g p a b c told h)
-Stopped-feed w g p a b c fault.Memory told h =
-    WritesLines-grown a c w g (10 ∷ []) (memory_told w g p a b c told h)
+Stopped-feed w g p a b c fault.Read so_far h = h
+Stopped-feed w g p a b c fault.TooMuch so_far h = h
+Stopped-feed w g p a b c fault.Write so_far h = rw (whole_lines-feed g)
+    (part_so_far w g p a b c so_far h)
+Stopped-feed w g p a b c fault.Memory so_far h =
+    WritesLines-grown a c w g (10 ∷ []) (memory_so_far w g p a b c so_far h)
 
 -- ## The end of the script
 
-Finished-empty_at : (w : World) (g : List ℕ) (p : Progress) (a b : Option (List ℕ)) → Told w g p a b
+Finished-empty_at : (w : World) (g : List ℕ) (p : Progress) (a b : Option (List ℕ))
+    → SoFar w g p a b
     → last_piece g ≡ [] → Finished w g p a b
-Finished-empty_at w g p a b told none =
+Finished-empty_at w g p a b so_far none =
     let same : all_lines g ≡ whole_lines g = ap (λ l. whole_lines g ++ piece_line l) none
     ∙ append-nil (whole_lines g) in
     record {
-      summary = record { lines = rw same told.lines; refused = rw same told.refused };
-      written = rw same told.written;
+      summary = record { lines = rw same so_far.lines; refused = rw same so_far.refused };
+      written = rw same so_far.written;
     }
 
 -- where nothing is kept at the end of a script, all its lines are answered
 pub Finished-empty : (w : World) (g : List ℕ) (p : Progress) (a b : Option (List ℕ))
-    → Told w g p a b → p.line.items ≡ [] → Finished w g p a b
-Finished-empty w g p a b told h = Finished-empty_at w g p a b told
-    (no_piece (last_piece g) (sym told.line ∙ h))
+    → SoFar w g p a b → p.line.items ≡ [] → Finished w g p a b
+Finished-empty w g p a b so_far h = Finished-empty_at w g p a b so_far
+    (no_piece (last_piece g) (sym so_far.line ∙ h))
 
 -- where a last piece is kept, its answer completes the script's
 pub Finished-piece : (w : World) (g : List ℕ) (p q : Progress) (a b c : Option (List ℕ))
-    → Told w g p a b → (p.line.items ≡ [] → ⊥)
+    → SoFar w g p a b → (p.line.items ≡ [] → ⊥)
     → Answered (world_after w (whole_lines g)) p q b c → q.summary.lines ≡ p.summary.lines + 1
     → Finished w g q a c
-Finished-piece w g p q a b c told some done number =
+Finished-piece w g p q a b c so_far some done number =
     let all : all_lines g ≡ whole_lines g ++ last_piece g ∷ [] =
-    ap (λ l. whole_lines g ++ l) (some_piece (last_piece g) p.line.items told.line some) in
+    ap (λ l. whole_lines g ++ l) (some_piece (last_piece g) p.line.items so_far.line some) in
     record {
       summary = record {
-        lines = let n = told.lines in rw (all, length-append) (omega arith);
-        refused = rw all (refused_told w g p q a b b c told done);
+        lines = let n = so_far.lines in rw (all, length-append) (omega arith);
+        refused = rw all (refused_so_far w g p q a b b c so_far done);
       };
-      written = rw all (written_told w g p q a b c told done);
+      written = rw all (written_so_far w g p q a b c so_far done);
     }
 
 -- where a last piece is kept and isn't answered, the run stops at it
 pub StoppedLast-piece : (w : World) (g : List ℕ) (p : Progress) (a b c : Option (List ℕ))
-    (e : RunFault) → Told w g p a b → (p.line.items ≡ [] → ⊥)
+    (e : RunFault) → SoFar w g p a b → (p.line.items ≡ [] → ⊥)
     → Unanswered (world_after w (whole_lines g)) p e b c → StoppedLast w g e a c
-StoppedLast-piece w g p a b c fault.Read told some h = h
-StoppedLast-piece w g p a b c fault.TooMuch told some h = h
-StoppedLast-piece w g p a b c fault.Write told some h =
+StoppedLast-piece w g p a b c fault.Read so_far some h = h
+StoppedLast-piece w g p a b c fault.TooMuch so_far some h = h
+StoppedLast-piece w g p a b c fault.Write so_far some h =
     let all : all_lines g ≡ whole_lines g ++ last_piece g ∷ [] =
-    ap (λ l. whole_lines g ++ l) (some_piece (last_piece g) p.line.items told.line some) in
-    rw all (part_told w g p a b c told h)
-StoppedLast-piece w g p a b c fault.Memory told some h = memory_told w g p a b c told h
+    ap (λ l. whole_lines g ++ l) (some_piece (last_piece g) p.line.items so_far.line some) in
+    rw all (part_so_far w g p a b c so_far h)
+StoppedLast-piece w g p a b c fault.Memory so_far some h = memory_so_far w g p a b c so_far h
 
 -- ## The end of a run
 

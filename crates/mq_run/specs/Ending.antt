@@ -35,13 +35,13 @@ abbrev pub failures_of : {T : Type 0} → Result T RunFault → ℕ
 failures_of (Ok x) = 0
 failures_of (Err e) = write_failures e
 
--- what is known of a device: the bytes that it tells before and after, and the failures
+-- what is known of a device: the bytes that it shows before and after, and the failures
 pub record Watched : Type 0 where
   pub before : Option (List ℕ)
   pub after : Option (List ℕ)
   pub calls : Failures
 
--- of a device of which such bytes and such failures are told
+-- of a device of which such bytes and such failures are shown
 abbrev pub watch : {D : Type 0} → (D → Option (List ℕ)) → (D → ℕ) → (old new : D) → Watched
 watch bytes failures old new = record {
   before = bytes old;
@@ -117,7 +117,7 @@ EndsOver limit w result reader writer = (given : List ℕ) × Consumes reader.be
       writer = writer.calls;
     })
 
--- the headline of a run of at most so many bytes that began in a world: where the devices tell
+-- the headline of a run of at most so many bytes that began in a world: where the devices show
 -- their bytes and don't fail, the script isn't too long and memory suffices, all of the script is
 -- answered, and nothing else is written
 abbrev pub AnswersWhole : ℕ → World → Result Summary RunFault → (reader writer : Watched) → Type 0

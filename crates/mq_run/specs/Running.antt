@@ -31,7 +31,7 @@ pub record IsAnswered (k : ℕ) (w : World) (request : Request) (was_refused : B
   pub stands : StandsFor router (next w request)
 
 -- line k was answered in a text, as refused or not
-pub record IsTold (k : ℕ) (w : World) (line : List ℕ) (was_refused : Bool) (router : State)
+pub record IsSoFar (k : ℕ) (w : World) (line : List ℕ) (was_refused : Bool) (router : State)
     (old new : List ℕ) : Type 0 where
   pub text : new ≡ old ++ text_of k w line
   pub refused : was_refused ≡ is_refused w line
@@ -53,7 +53,7 @@ Unanswered w old fault.Write before after =
 Unanswered w old fault.Memory before after = Appends before after []
 
 -- the whole lines of what was given are answered, and what follows them is kept
-pub record Told (w : World) (given : List ℕ) (p : Progress) (before after : Option (List ℕ)) :
+pub record SoFar (w : World) (given : List ℕ) (p : Progress) (before after : Option (List ℕ)) :
     Type 0 where
   pub stands : StandsFor p.router (world_after w (whole_lines given))
   pub lines : p.summary.lines ≡ length (whole_lines given)
@@ -103,12 +103,12 @@ Answers old new result before after =
 unfoldable pub TakesBytes : (old new : Progress) → List ℕ → (before after : Option (List ℕ))
     → Type 0
 TakesBytes old new bytes before after = (w : World) (given : List ℕ) (start : Option (List ℕ))
-    → Told w given old start before → Told w (given ++ bytes) new start after
+    → SoFar w given old start before → SoFar w (given ++ bytes) new start after
 
 -- or the run stops among them
 unfoldable pub StopsAmong : Progress → List ℕ → RunFault → (before after : Option (List ℕ)) → Type 0
 StopsAmong old bytes e before after = (w : World) (given : List ℕ) (start : Option (List ℕ))
-    → Told w given old start before → Stopped w (given ++ bytes) e start after
+    → SoFar w given old start before → Stopped w (given ++ bytes) e start after
 
 abbrev pub Takes : {T : Type 0} → (old new : Progress) → List ℕ → Result T RunFault
     → (before after : Option (List ℕ)) → Type 0
@@ -119,12 +119,12 @@ Takes old new bytes result before after =
 -- no more bytes come, and a last piece is answered
 unfoldable pub EndsLines : (old new : Progress) (before after : Option (List ℕ)) → Type 0
 EndsLines old new before after = (w : World) (given : List ℕ) (start : Option (List ℕ))
-    → Told w given old start before → Finished w given new start after
+    → SoFar w given old start before → Finished w given new start after
 
 -- or the run stops there
 unfoldable pub StopsLast : Progress → RunFault → (before after : Option (List ℕ)) → Type 0
 StopsLast old e before after = (w : World) (given : List ℕ) (start : Option (List ℕ))
-    → Told w given old start before → StoppedLast w given e start after
+    → SoFar w given old start before → StoppedLast w given e start after
 
 abbrev pub Ends : {T : Type 0} → (old new : Progress) → Result T RunFault
     → (before after : Option (List ℕ)) → Type 0

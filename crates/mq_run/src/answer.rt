@@ -4,7 +4,7 @@ ghost use Rattle.mq_world.specs.World.{World};
 ghost use Rattle.mq_world.specs.Views.{request_of};
 ghost use Rattle.mq_world.specs.Refusals.{is_valid};
 ghost use Rattle.mq_router.specs.StandsFor.{StandsFor};
-ghost use Rattle.mq_run.specs.Running.{IsAnswered, IsTold};
+ghost use Rattle.mq_run.specs.Running.{IsAnswered, IsSoFar};
 
 use mq_jsonl::{LineFault, Printer, read_line};
 use mq_router::Router;
@@ -51,7 +51,7 @@ pub fn answer_line(
     out: &mut Vec<u8>,
 ) -> Result<bool, AllocError>
     ensures ok { (w : World) → StandsFor router.old w → IfOk result (λ refused.
-        IsTold number w line.now refused router.new out.old.items out.new.items) }
+        IsSoFar number w line.now refused router.new out.old.items out.new.items) }
     ensures err { OnErr result (out.new.items ≡ out.old.items) }
 {
     match read_line(alloc, line) {

@@ -43,11 +43,11 @@ impl Drop for Progress {
 
 impl Progress {
     ghost use Rattle.mq_run.specs.Ending.{failures_of};
-    ghost use Rattle.mq_run.specs.Running.{Told, Answers, Takes, Ends};
+    ghost use Rattle.mq_run.specs.Running.{SoFar, Answers, Takes, Ends};
 
     pub fn new(alloc: Global, router: Router) -> Progress
-        ensures told { (w : World) (start : Option (List ℕ)) → StandsFor router w
-            → Told w [] result start start }
+        ensures so_far { (w : World) (start : Option (List ℕ)) → StandsFor router w
+            → SoFar w [] result start start }
         ensures lines { result.summary.lines ≡ 0 }
         ensures line { result.line.items ≡ [] }
     {

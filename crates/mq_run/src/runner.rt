@@ -5,7 +5,7 @@ ghost use Rattle.std.specs.Io.KnownBytes.{Consumes, Keeps};
 ghost use Rattle.mq_world.specs.World.{World};
 ghost use Rattle.mq_router.specs.StandsFor.{StandsFor};
 ghost use Rattle.mq_run.specs.Ending.{AnswersWhole, EndsOver, failures_of, watch, script_limit};
-ghost use Rattle.mq_run.specs.Running.{Told, TakesAll};
+ghost use Rattle.mq_run.specs.Running.{SoFar, TakesAll};
 
 use crate::devices::{PIECE, Sink, Source};
 use crate::outcome::{RunFault, Summary};
@@ -68,7 +68,7 @@ fn read_lines<R: Source, W: Sink>(
         (W.taken writer.old) (W.taken writer.new)) }
     ensures ok_count { OnOk result ((R.failures reader.new ≡ R.failures reader.old)
         × (W.failures writer.new ≡ W.failures writer.old)) }
-    ensures err { (w : World) → Told w [] progress.old (W.taken writer.old) (W.taken writer.old)
+    ensures err { (w : World) → SoFar w [] progress.old (W.taken writer.old) (W.taken writer.old)
         → IfErr result (λ e.
         EndsOver options.limit w (Err e) (watch R.to_come R.failures reader.old reader.new)
         (watch W.taken W.failures writer.old writer.new)) }
@@ -107,7 +107,7 @@ fn answer_all<R: Source, W: Sink>(
 ) -> Result<Summary, RunFault>
     requires lines { progress.old.summary.lines ≡ 0 }
     requires line { progress.old.line.items ≡ [] }
-    ensures ending { (w : World) → Told w [] progress.old (W.taken writer.old) (W.taken writer.old)
+    ensures ending { (w : World) → SoFar w [] progress.old (W.taken writer.old) (W.taken writer.old)
         → EndsOver options.limit w result (watch R.to_come R.failures reader.old reader.new)
         (watch W.taken W.failures writer.old writer.new) }
     ensures flushed { OnOk result (W.flushed writer.new ≡ W.taken writer.new) }

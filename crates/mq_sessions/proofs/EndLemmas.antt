@@ -101,7 +101,7 @@ none-found end bs (e ∷ es) h =
 abbrev pub ends_then : ℕ → code.Session → Bool
 ends_then end u = option_map_or (λ e. e == end) (end_of (view_of u)) false
 
--- a look-up tells whether a session ends so
+-- a look-up shows whether a session ends so
 pub any-found : (end : ℕ) (bs : Text) (es : List Entry)
     → IsStrictlySortedBy key_cmp (keys_of es)
     → list_any (has_end (end, bs)) (views_of es)

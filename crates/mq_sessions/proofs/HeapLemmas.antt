@@ -61,7 +61,7 @@ none_until moment x (y ∷ ys) h above =
     ap (λ b. b || list_any (λ due. nat_le due.0 moment) (dues ys)) here
     ∙ none_until moment x ys h above.1
 
--- the first tells of all
+-- the first speaks of all
 pub until-first : (moment : ℕ) (x : Item) (xs : List Item) → x ≡ get_or xs 0 x → 0 < length xs
     → IsUpperBound entry_cmp x xs
     → nat_le x.0.0 moment ≡ list_any (λ due. nat_le due.0 moment) (dues xs)

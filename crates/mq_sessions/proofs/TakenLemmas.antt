@@ -70,7 +70,7 @@ none-until moment dues ss listed none =
               ]
         ]
 
--- a test that agrees with all ends and with the first one tells whether a session has ended
+-- a test that agrees with all ends and with the first one shows whether a session has ended
 pub any-is : (moment : ℕ) (dues : List Due) (ss : List Session) → AreListed dues ss
     → IsFirstLive dues ss → (b : Bool) → b ≡ list_any (λ due. nat_le due.0 moment) dues
     → b ≡ option_map_or (λ due. nat_le due.0 moment) (first_of dues) false

@@ -63,7 +63,7 @@ own-text s a b valid_a valid_b own_a own_b =
     let in_b = filter_parts s (text_key b) own_b in
     same_parts a b valid_a valid_b (sym in_a.0 ∙ in_b.0) (sym in_a.1 ∙ in_b.1)
 
--- so of a text that has the subscription, the one that leaves is told by the subscription too
+-- so of a text that has the subscription, the one that leaves is known by the subscription too
 named : (s : Subscription) (text : Text) (x : Key) → is_subscription text ≡ true → IsAsked x
     → has_filter_key s (key_in x) ≡ true → is_text text (rc_str_bytes x)
     ≡ has_filter_key s (text_key text)

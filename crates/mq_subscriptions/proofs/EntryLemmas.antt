@@ -242,11 +242,11 @@ pub unshared-left : (f bs : Text) (es new : List (Key × SubscriptionOptions))
     → unshared_rows f (texts new) ≡ filter (λ x. not (has_key bs None f x))
     (unshared_rows f (texts es))
 unshared-left f bs es new sorted out =
-    let told : Key × SubscriptionOptions → Member = λ e. (rc_str_bytes e.0, e.1) in
+    let shown : Key × SubscriptionOptions → Member = λ e. (rc_str_bytes e.0, e.1) in
     rw (out, remove_entry-filter key_cmp (finds bs) (apart bs) es sorted)
-    (rw (filter-same (λ e. not (finds bs e.0)) (λ e. not (has_client bs (told e)))
+    (rw (filter-same (λ e. not (finds bs e.0)) (λ e. not (has_client bs (shown e)))
     (λ e. ap not (finds-is bs e.0)) es)
-    (rw (map-filter told (λ m. not (has_client bs m)) es) (left_rows None f bs (texts es))))
+    (rw (map-filter shown (λ m. not (has_client bs m)) es) (left_rows None f bs (texts es))))
 
 -- ## Both
 
@@ -295,11 +295,11 @@ is_here f d gs a e = rw (← e) (here-is f d gs)
 pub unshared-any : (f bs : Text) (es : List (Key × SubscriptionOptions))
     → is_some (lookup (finds bs) es) ≡ list_any (has_key bs None f) (unshared_rows f (texts es))
 unshared-any f bs es =
-    let told : Key × SubscriptionOptions → Member = λ e. (rc_str_bytes e.0, e.1) in
+    let shown : Key × SubscriptionOptions → Member = λ e. (rc_str_bytes e.0, e.1) in
     rw (is_some-lookup (finds bs) es, list_any-map (row None f) (has_key bs None f) (texts es))
-    (rw (list_any-map told (λ m. has_key bs None f (row None f m)) es)
-    (list_any-same (λ e. finds bs e.0) (λ e. has_key bs None f (row None f (told e)))
-    (λ e. finds-is bs e.0 ∙ sym (own_key None f bs (told e))) es))
+    (rw (list_any-map shown (λ m. has_key bs None f (row None f m)) es)
+    (list_any-same (λ e. finds bs e.0) (λ e. has_key bs None f (row None f (shown e)))
+    (λ e. finds-is bs e.0 ∙ sym (own_key None f bs (shown e))) es))
 
 -- a client's own key is at the filter just where it is among the own rows
 pub at-any-unshared : (f c : Text) (d : List Member) (gs : GroupList)

@@ -40,12 +40,12 @@ pub turn-elements : (rows : List Row) → SameElements (by_turn rows) rows
 turn-elements [] = λ p. refl
 turn-elements (r ∷ rows) = λ p. grind (arith, put-elements p r (by_turn rows), turn-elements rows p)
 
--- what is true of the subscription of each row is true of all subscriptions that rows tell
-pub told-all : (P : Subscription → Type 0) (rows : List Row)
+-- what is true of the subscription of each row is true of all subscriptions that rows show
+pub shown-all : (P : Subscription → Type 0) (rows : List Row)
     → AllByRecursion (λ r. P r.subscription) rows
     → AllByRecursion P (map (λ (r : Row). r.subscription) rows)
-told-all P [] h = tt
-told-all P (r ∷ rows) h = (h.0, told-all P rows h.1)
+shown-all P [] h = tt
+shown-all P (r ∷ rows) h = (h.0, shown-all P rows h.1)
 
 -- ## Stamps apart
 
@@ -209,11 +209,11 @@ module _ (s : Subscription) where
 
   -- ## Turns
 
-  renewed_told : (rows : List Row) → map (λ (r : Row). r.subscription) (map renewed rows)
+  renewed_shown : (rows : List Row) → map (λ (r : Row). r.subscription) (map renewed rows)
       ≡ map (λ x. if same_key s x then s else x) (map (λ (r : Row). r.subscription) rows)
-  renewed_told [] = refl
-  renewed_told (r ∷ rows) =
-      pick (same r) (λ t. rw (t, renewed_told rows)) (λ n. rw (n, renewed_told rows))
+  renewed_shown [] = refl
+  renewed_shown (r ∷ rows) =
+      pick (same r) (λ t. rw (t, renewed_shown rows)) (λ n. rw (n, renewed_shown rows))
 
   pub renewed_stamp : (r : Row) → (renewed r).stamp ≡ r.stamp
   renewed_stamp r = pick (same r) (λ t. rw t) (λ n. rw n)
@@ -239,14 +239,14 @@ module _ (s : Subscription) where
         ∙ list_any-SameElements same (by_turn w.rows) w.rows (turn-elements w.rows)
         ∙ sym (is_some-find same w.rows) ∙ ap is_some e in
         rw (any, row_replaced w.rows old h.rows e, by_turn-map renewed w.rows renewed_stamp)
-        (rw (renewed_told (by_turn w.rows)) (append-nil _))
+        (rw (renewed_shown (by_turn w.rows)) (append-nil _))
     joins_by None e =
         let none : AllByRecursion (λ r. same r ≡ false) w.rows = none_found w.rows e in
-        let told_none : AllByRecursion (λ x. same_key s x ≡ false) (in_turn w) =
-        told-all (λ x. same_key s x ≡ false) (by_turn w.rows)
+        let shown_none : AllByRecursion (λ x. same_key s x ≡ false) (in_turn w) =
+        shown-all (λ x. same_key s x ≡ false) (by_turn w.rows)
         (all-by_turn (λ r. same r ≡ false) w.rows none) in
         let x : Row = record { subscription = s; stamp = w.accepted } in
-        rw (any-none (same_key s) (in_turn w) told_none, map-kept s (in_turn w) told_none)
+        rw (any-none (same_key s) (in_turn w) shown_none, map-kept s (in_turn w) shown_none)
         (sym (ap (map (λ (r : Row). r.subscription))
         (by_turn-last (filter first w.rows) x (filter later w.rows)
         (all_filtered (λ (r : Row). r.stamp < w.accepted) first w.rows h.stamps)

@@ -68,13 +68,13 @@ same-one bs x y h = let e : bs ≡ rc_str_bytes x = (bytes_eq-Decides bs (rc_str
     ap (λ t. same_text t (rc_str_bytes y)) e
 
 module _ {X : Type 0} where
-  abbrev told : Key × X → Text × X
-  told e = (rc_str_bytes e.0, e.1)
+  abbrev shown : Key × X → Text × X
+  shown e = (rc_str_bytes e.0, e.1)
 
   turned-seen : (bs : Text) (es : List (Key × X))
       → texts (put_last (λ e. same_text bs (rc_str_bytes e.0)) es)
       ≡ put_last (λ m. same_text m.0 bs) (texts es)
-  turned-seen bs es = map-put_last told (λ e. same_text bs (rc_str_bytes e.0))
+  turned-seen bs es = map-put_last shown (λ e. same_text bs (rc_str_bytes e.0))
       (λ m. same_text m.0 bs) (λ e. nat_list_eq_equiv.symm (rc_str_bytes e.0) bs) es
 
   pub removed-texts : (bs : Text) (es : List (Key × X)) → IsDistinct key_eq (keys_of es)
@@ -85,7 +85,7 @@ module _ {X : Type 0} where
       (rw (filter-same (λ e. not (same_text bs (rc_str_bytes e.0)))
       (λ e. not (same_text (rc_str_bytes e.0) bs))
       (λ e. ap not (nat_list_eq_equiv.symm bs (rc_str_bytes e.0))) es)
-      (map-filter told (λ m. not (same_text m.0 bs)) es))
+      (map-filter shown (λ m. not (same_text m.0 bs)) es))
 
   pub turned-texts : (bs : Text) (es : List (Key × X)) (i n : ℕ) → IsDistinct key_eq (keys_of es)
       → position (λ k. same_text bs (rc_str_bytes k)) (keys_of es) ≡ Some i → n ≡ length es
@@ -136,6 +136,6 @@ module _ {X : Type 0} where
       ≡ list_any (λ m. same_text m.0 bs) (texts es)
   contains-texts bs es =
       rw (is_some-lookup (λ k. same_text bs (rc_str_bytes k)) es)
-      (rw (list_any-map told (λ m. same_text m.0 bs) es)
+      (rw (list_any-map shown (λ m. same_text m.0 bs) es)
       (list_any-same (λ e. same_text bs (rc_str_bytes e.0)) (λ e. same_text (rc_str_bytes e.0) bs)
       (λ e. nat_list_eq_equiv.symm bs (rc_str_bytes e.0)) es))

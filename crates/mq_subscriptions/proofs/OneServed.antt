@@ -24,8 +24,8 @@ use Rattle.mq_world.proofs.Splits.{some_same, none_some}
 use Rattle.mq_subscriptions.proofs.TurnLemmas.{StampsBelow, by_turn-filter, by_turn-last}
 use Rattle.mq_subscriptions.proofs.JoinTurn.{AreApart, apart-insert, apart-filter}
 
-abbrev pub told : List Row → List Subscription
-told rows = map (λ (r : Row). r.subscription) rows
+abbrev pub shown : List Row → List Subscription
+shown rows = map (λ (r : Row). r.subscription) rows
 
 -- ## Subscriptions that go last
 
@@ -161,8 +161,8 @@ module _ (n : ℕ) (rows : List Row) (sorted : IsStrictlySortedBy row_cmp rows)
       (rw (filter-none (alike r) cut.front apart.0, own)
       (rw (filter-none (alike r) cut.back apart.1)))
 
-  pub turned-one : told (by_turn (map (λ o. if alike r o then stamped n o else o) rows))
-      ≡ put_last (same_key r.subscription) (told (by_turn rows))
+  pub turned-one : shown (by_turn (map (λ o. if alike r o then stamped n o else o) rows))
+      ≡ put_last (same_key r.subscription) (shown (by_turn rows))
   turned-one =
       rw (restamp_is, by_turn-last cut.front (stamped n r) cut.back parts.0 parts.1.1)
       (rw (← map-put_last (λ (o : Row). o.subscription) (alike r) (same_key r.subscription)

@@ -182,7 +182,7 @@ pub least_stamped-is : (rows : List Row) → least_stamped rows ≡ least rows
 least_stamped-is [] = refl
 least_stamped-is (r ∷ rs) = least_stamped-cons r rs
 
--- ## What the world's turns are, told by the order of the rows
+-- ## What the world's turns are, by the order of the rows
 
 -- of the rows that pass a test, the one with the least stamp is the first in turn
 pub least-is : (able : Row → Bool) (rows : List Row)

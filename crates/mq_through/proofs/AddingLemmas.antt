@@ -1,4 +1,4 @@
--- What is told of one client in one region, one difference after the other.
+-- What is shown of one client in one region, one difference after the other.
 use Rattle.std.proofs.Common.{◌≡◌, ℕ, Bool, true, false, ◌||◌}
 use Rattle.std.proofs.Common.{List, [], ◌∷◌, ◌++◌, ◌<◌, get_or, length, map, refl, ap, sym, ◌∙◌}
 use Rattle.std.proofs.Common.{subst, All}
@@ -22,13 +22,13 @@ use Rattle.mq_through.specs.Made.{IsClient, IsComparison, IsList, IsRenamed}
 use Rattle.mq_through.specs.Made.{Names}
 use Rattle.mq_through.specs.Made.{asks_new, asks_old}
 use Rattle.mq_through.specs.Parts.{IsPart}
-use Rattle.mq_through.specs.Through.{IsQuestion, Question, is_told_of}
+use Rattle.mq_through.specs.Through.{IsQuestion, Question, is_shown_of}
 use Rattle.mq_through.specs.declared.lists.Comparison.{Comparison}
 use Rattle.mq_through.specs.declared.renamed.Renamed.{Renamed}
-use Rattle.mq_through.specs.Tried.{Grows, TellsIn}
-use Rattle.mq_through.proofs.ToldLemmas.{Adds, adds_apart, adds_kept, adds_real, adds_told}
+use Rattle.mq_through.specs.Tried.{Grows, ShowsChangesIn}
+use Rattle.mq_through.proofs.ShownLemmas.{Adds, adds_apart, adds_kept, adds_real, adds_shown}
 use Rattle.mq_through.proofs.ItemLemmas.{item_has}
-use Rattle.mq_through.proofs.ClientLemmas.{AreMade, changes_made, renamed_real, renamed_told}
+use Rattle.mq_through.proofs.ClientLemmas.{AreMade, changes_made, renamed_real, renamed_shown}
 
 -- ---- a difference among others
 pub are_made : (k : Comparison) (region : Region) (client : List ℕ) (made_old made_new : List Row)
@@ -66,11 +66,11 @@ pub record IsAdding (plan : List PlanRule) (old new : List Row) (region : Region
     (client : List ℕ) (made_old made_new : List Row) (before after : List Renamed)
     (seen : List Difference) : Type 0 where
   pub grows : Grows plan old new before after
-  pub told : (way : Way) (q : Question) → IsQuestion plan q → q.client ≡ client
+  pub shown : (way : Way) (q : Question) → IsQuestion plan q → q.client ≡ client
       → in_region region q.topic ≡ true
-      → list_any (differences.is_told_of Own made_old made_new way q.direction client q.user
+      → list_any (differences.is_shown_of Own made_old made_new way q.direction client q.user
       q.topic) seen ≡ true
-      → list_any (is_told_of plan old new way q) after ≡ true
+      → list_any (is_shown_of plan old new way q) after ≡ true
 
 module _ (plan : List PlanRule) (old new : List Row) (region : Region) (client : List ℕ)
     (users : List (Bor (List ℕ))) (made_old made_new : List Row)
@@ -88,8 +88,8 @@ module _ (plan : List PlanRule) (old new : List Row) (region : Region) (client :
           (f.grows.real all);
       apart = λ h. adds_apart plan old new r after more a (f.grows.apart h);
     };
-    told = λ way q asked c e h.
-        let p : Difference → Bool = differences.is_told_of Own made_old made_new way q.direction
+    shown = λ way q asked c e h.
+        let p : Difference → Bool = differences.is_shown_of Own made_old made_new way q.direction
         client q.user q.topic in
         at way q asked c e (list_any p seen) (p d) refl refl
         (sym (list_any-append p seen (d ∷ [])) ∙ h);
@@ -97,25 +97,26 @@ module _ (plan : List PlanRule) (old new : List Row) (region : Region) (client :
     where
       at : (way : Way) (q : Question) → IsQuestion plan q → q.client ≡ client
           → in_region region q.topic ≡ true → (a b : Bool)
-          → list_any (differences.is_told_of Own made_old made_new way q.direction client q.user
+          → list_any (differences.is_shown_of Own made_old made_new way q.direction client q.user
           q.topic) seen ≡ a
-          → differences.is_told_of Own made_old made_new way q.direction client q.user q.topic d ≡ b
+          → differences.is_shown_of Own made_old made_new way q.direction client q.user q.topic d
+          ≡ b
           → (a || (b || false)) ≡ true
-          → list_any (is_told_of plan old new way q) more ≡ true
+          → list_any (is_shown_of plan old new way q) more ≡ true
       at way q asked c e true b g h k =
-          adds_kept plan old new r after more a way q (f.told way q asked c e g)
+          adds_kept plan old new r after more a way q (f.shown way q asked c e g)
       at way q asked c e false true g h k =
-          adds_told plan old new r after more a way q
-          (renamed_told plan old new region client users made_old made_new m d r is n way q asked c
+          adds_shown plan old new r after more a way q
+          (renamed_shown plan old new region client users made_old made_new m d r is n way q asked c
           e h)
       at way q asked c e false false g h k = absurd (let z : false ≡ true = k in cc)
 
   pub adding_all : (after : List Renamed) (all : List Difference)
-      → differences.TellsAll Own made_old made_new all
+      → differences.ShowsAll Own made_old made_new all
       → IsAdding plan old new region client made_old made_new before after all
-      → TellsIn plan old new region client after
+      → ShowsChangesIn plan old new region client after
   adding_all after all every f way q asked c e h =
-      f.told way q asked c e
+      f.shown way q asked c e
       (every way q.direction client q.topic q.user m.client_is.id asked.user
       (compared (row_views made_old ++ row_views made_new) q.user) asked.topic
       (changes_made plan old new region client users made_old made_new m way q asked c e h))

@@ -1,4 +1,4 @@
--- What is told of one client in one region.
+-- What is shown of one client in one region.
 use Rattle.std.proofs.Common.{◌≡◌, ℕ, Bool, true, false, not, ◌&&◌}
 use Rattle.std.proofs.Common.{List, refl, ap, sym, ◌∙◌}
 use Rattle.std.proofs.Common.{subst}
@@ -32,16 +32,16 @@ use Rattle.mq_through.specs.Made.{Names}
 use Rattle.mq_through.specs.Made.{asks_new, asks_old}
 use Rattle.mq_through.specs.Named.{is_named_in}
 use Rattle.mq_through.specs.Parts.{IsPart}
-use Rattle.mq_through.specs.Through.{IsQuestion, IsReal, Question, changes, is_changed, is_told_of}
+use Rattle.mq_through.specs.Through.{IsQuestion, IsReal, Question, changes, is_changed, is_shown_of}
 use Rattle.mq_through.specs.Through.{new_reason, old_reason, question_of}
 use Rattle.mq_through.specs.Through.{rule_line, same_line}
 use Rattle.mq_through.specs.declared.fault.ThroughFault.{ThroughFault}
 use Rattle.mq_through.specs.declared.fault.ThroughFault.TheVariants as faults
 use Rattle.mq_through.specs.declared.renamed.Renamed.{Renamed}
-use Rattle.mq_through.proofs.MadeLemmas.{class_told, class_user}
+use Rattle.mq_through.proofs.MadeLemmas.{class_shown, class_user}
 use Rattle.mq_through.proofs.ReasonLemmas.{same_allows}
 use Rattle.mq_through.proofs.ReasonLemmas as reasons
-use Rattle.mq_through.proofs.ToldLemmas.{line_itself, told}
+use Rattle.mq_through.proofs.ShownLemmas.{line_itself, shown}
 
 change_by : (way : Way) (old new : List AclRow) (c : List ℕ) (u : Option (List ℕ)) (t : List ℕ)
     (d : Direction) → is_change Own way old new c u t d
@@ -167,12 +167,12 @@ module _ (plan : List PlanRule) (old new : List Row) (region : Region) (client :
   -- ---- what is made of it
   module _ (d : Difference) (r : Renamed) (is : differences.IsReal Own made_old made_new d)
       (n : IsRenamed plan old new client users d r) where
-    -- it tells of what the difference tells of
-    pub renamed_told : (way : Way) (q : Question) → IsQuestion plan q → q.client ≡ client
+    -- it speaks of what the difference speaks of
+    pub renamed_shown : (way : Way) (q : Question) → IsQuestion plan q → q.client ≡ client
         → in_region region q.topic ≡ true
-        → differences.is_told_of Own made_old made_new way q.direction client q.user q.topic d
-        ≡ true → is_told_of plan old new way q r ≡ true
-    renamed_told way q asked c e h =
+        → differences.is_shown_of Own made_old made_new way q.direction client q.user q.topic d
+        ≡ true → is_shown_of plan old new way q r ≡ true
+    renamed_shown way q asked c e h =
         let all = and_parts (is_in (row_views made_old) (row_views made_new) q.user d.class
         && same_direction q.direction d.direction && same_way way d.way
         && same_start q.topic d.topic)
@@ -189,9 +189,9 @@ module _ (plan : List PlanRule) (old new : List Row) (region : Region) (client :
         && same_direction q.direction d.direction) (same_way way d.way) three.0 in
         let one = and_parts (is_in (row_views made_old) (row_views made_new) q.user d.class)
         (same_direction q.direction d.direction) two.0 in
-        told plan old new way q r (record {
+        shown plan old new way q r (record {
           class = ap (is_in (row_views old) (row_views new) q.user) n.class
-              ∙ class_told (row_views old) (row_views new) (row_views made_old)
+              ∙ class_shown (row_views old) (row_views new) (row_views made_old)
               (row_views made_new) users q.user d.class m.listed m.names one.0;
           direction = ap (same_direction q.direction) n.direction ∙ one.1;
           way = ap (same_way way) n.way ∙ two.1;
@@ -246,7 +246,7 @@ module _ (plan : List PlanRule) (old new : List Row) (region : Region) (client :
           asked = subst (IsQuestion plan) (sym same_about) asked_about;
           class = (λ i. is_in (row_views old) (row_views new)
               ((ap user_of n.class ∙ class_user users d.class) i) (n.class i))
-              ∙ class_told (row_views old) (row_views new) (row_views made_old)
+              ∙ class_shown (row_views old) (row_views new) (row_views made_old)
               (row_views made_new) users (user_of d.class) d.class m.listed m.names is.class;
           change = (λ i. is_changed (n.way i) old new (same_about i))
               ∙ sym (change_made d.way (user_of d.class) d.topic r.new_topic d.direction is.valid e

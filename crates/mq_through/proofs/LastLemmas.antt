@@ -1,4 +1,4 @@
--- What is told for one client holds for another for whom the same lists are made.
+-- What is shown for one client holds for another for whom the same lists are made.
 use Rattle.std.proofs.Common.{◌≡◌, ◌∙◌, ◌&&◌, ℕ, Bool, true, false, cond, List, [], ◌∷◌, refl, ap, sym}
 use Rattle.std.proofs.Common.{Option, Some, None, length, arith}
 use Rattle.std.specs.Prelude.{find}
@@ -20,9 +20,9 @@ use Rattle.mq_regions.specs.Regions.{in_region, name_in}
 use Rattle.mq_regions.specs.declared.region.Region.{Region}
 use Rattle.mq_through.specs.Made.{IsClient, IsMade, SameRows}
 use Rattle.mq_through.specs.Parts.{IsPart}
-use Rattle.mq_through.specs.Through.{IsQuestion, Question, changes, is_told_of, new_allows}
+use Rattle.mq_through.specs.Through.{IsQuestion, Question, changes, is_shown_of, new_allows}
 use Rattle.mq_through.specs.Through.{new_reason, old_allows, old_reason, rule_line, same_line}
-use Rattle.mq_through.specs.Tried.{IsLastMade, IsTried, TellsIn}
+use Rattle.mq_through.specs.Tried.{IsLastMade, IsTried, ShowsChangesIn}
 use Rattle.mq_through.specs.declared.lists.Comparison.{Comparison}
 use Rattle.mq_through.specs.declared.made.Made.{Made}
 use Rattle.mq_through.specs.declared.renamed.Renamed.{Renamed}
@@ -67,25 +67,25 @@ asked_by client q = record {
   name = q.name;
 }
 
-told_for : (k : Comparison) (way : Way) (q : Question) (old new : Reason) (all : List Renamed)
+shown_for : (k : Comparison) (way : Way) (q : Question) (old new : Reason) (all : List Renamed)
     → Bool
-told_for k way q old new all = list_any (λ r. is_in (row_views k.old.now) (row_views k.new.now) q.user
+shown_for k way q old new all = list_any (λ r. is_in (row_views k.old.now) (row_views k.new.now) q.user
     r.difference.class
     && same_direction q.direction r.difference.direction
     && same_way way r.difference.way && same_start q.topic r.difference.topic
     && same_reason old r.difference.old_reason && same_reason new r.difference.new_reason
     && same_line (rule_line k.plan.now q.topic) r.rule) all
 
-pub told_again : (k : Comparison) (region : Region) (b c : List ℕ) (m n : Made)
+pub shown_again : (k : Comparison) (region : Region) (b c : List ℕ) (m n : Made)
     (all : List Renamed) → IsPart k.plan.now region → IsClient b → IsMade k region b m
     → IsMade k region c n → SameRows m.old.items n.old.items → SameRows m.new.items n.new.items
-    → TellsIn k.plan.now k.old.now k.new.now region b all
-    → TellsIn k.plan.now k.old.now k.new.now region c all
-unfolding asked_by told_for
-told_again k region b c m n all part can made made_c same_old same_new tells way q asked is inside
+    → ShowsChangesIn k.plan.now k.old.now k.new.now region b all
+    → ShowsChangesIn k.plan.now k.old.now k.new.now region c all
+unfolding asked_by shown_for
+shown_again k region b c m n all part can made made_c same_old same_new shows way q asked is inside
     changed =
-    (λ i. told_for k way q (old_is i) (new_is i) all)
-    ∙ tells way (asked_by b q) (record {
+    (λ i. shown_for k way q (old_is i) (new_is i) all)
+    ∙ shows way (asked_by b q) (record {
       client = can.id;
       user = asked.user;
       topic = asked.topic;
@@ -127,7 +127,7 @@ told_again k region b c m n all part can made made_c same_old same_new tells way
 pub tried_again : (k : Comparison) (region : Region) (last : Option Made) (c : List ℕ) (n : Made)
     (all : List Renamed) → IsPart k.plan.now region → IsTried k region last all
     → IsLastMade last n → IsMade k region c n
-    → TellsIn k.plan.now k.old.now k.new.now region c all
+    → ShowsChangesIn k.plan.now k.old.now k.new.now region c all
 tried_again k region None c n all part tried same made = absurd same
 tried_again k region (Some m) c n all part tried same made =
-    told_again k region tried.0 c m n all part tried.1 tried.2 made same.0 same.1 tried.3
+    shown_again k region tried.0 c m n all part tried.1 tried.2 made same.0 same.1 tried.3

@@ -3,7 +3,7 @@ mod ReasonLemmas
 mod LimitLemmas
 mod PartLemmas
 mod MadeLemmas
-mod ToldLemmas
+mod ShownLemmas
 mod ItemLemmas
 mod ClientLemmas
 mod AddingLemmas

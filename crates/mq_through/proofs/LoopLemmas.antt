@@ -20,10 +20,11 @@ use Rattle.mq_findings.proofs.FirstLemmas.{find_behind, parts_at}
 use Rattle.mq_witness.specs.Literals.{is_among}
 use Rattle.mq_topic.proofs.ByteLemmas.{text_is}
 use Rattle.mq_through.specs.Parts.{AreParts, IsPart, Widens, in_parts, rights_of}
-use Rattle.mq_through.specs.Through.{AreApart, IsQuestion, IsReal, Question, is_changed, is_told_of}
-use Rattle.mq_through.specs.Tried.{Grows, TellsIn, TellsTried, TellsTriedIn}
+use Rattle.mq_through.specs.Through.{AreApart, IsQuestion, IsReal}
+use Rattle.mq_through.specs.Through.{Question, is_changed, is_shown_of}
+use Rattle.mq_through.specs.Tried.{Grows, ShowsChangesIn, ShowsTried, ShowsTriedIn}
 use Rattle.mq_through.specs.declared.renamed.Renamed.{Renamed}
-use Rattle.mq_through.proofs.ToldLemmas.{grows_both}
+use Rattle.mq_through.proofs.ShownLemmas.{grows_both}
 
 -- ---- rules
 -- the regions of the first rules
@@ -86,18 +87,18 @@ parts_all plan place parts more h w has f = record {
 pub record AreClientsDone (plan : List PlanRule) (old new : List Row) (region : Region)
     (clients : List (Bor (List ℕ))) (place : ℕ) (before after : List Renamed) : Type 0 where
   pub grows : Grows plan old new before after
-  pub told : TellsTriedIn plan old new region (take place clients) after
+  pub shown : ShowsTriedIn plan old new region (take place clients) after
 
 pub clients_more : (plan : List PlanRule) (old new : List Row) (region : Region)
     (clients : List (Bor (List ℕ))) (place : ℕ) (d : Bor (List ℕ))
     (before after more : List Renamed) → place < length clients
     → Grows plan old new after more
-    → TellsIn plan old new region (get_or clients place d).now more
+    → ShowsChangesIn plan old new region (get_or clients place d).now more
     → AreClientsDone plan old new region clients place before after
     → AreClientsDone plan old new region clients (place + 1) before more
 clients_more plan old new region clients place d before after more h g t f = record {
   grows = grows_both plan old new before after more f.grows g;
-  told = λ way q asked c e k.
+  shown = λ way q asked c e k.
       at way q asked e k (is_among q.client (take place clients))
       (bytes_eq q.client (get_or clients place d).now) refl refl
       (sym (ap (is_among q.client) (take_more clients place d h)
@@ -109,8 +110,8 @@ clients_more plan old new region clients place d before after more h g t f = rec
         → is_changed way old new q ≡ true → (a b : Bool)
         → is_among q.client (take place clients) ≡ a
         → bytes_eq q.client (get_or clients place d).now ≡ b → (a || (b || false)) ≡ true
-        → list_any (is_told_of plan old new way q) more ≡ true
-    at way q asked e k true b i j c = g.kept way q (f.told way q asked i e k)
+        → list_any (is_shown_of plan old new way q) more ≡ true
+    at way q asked e k true b i j c = g.kept way q (f.shown way q asked i e k)
     at way q asked e k false true i j c =
         t way q asked (text_is q.client (get_or clients place d).now j) e k
     at way q asked e k false false i j c = absurd (let z : false ≡ true = c in cc)
@@ -120,20 +121,20 @@ pub record AreRegionsDone (plan : List PlanRule) (old new : List Row) (regions :
     (clients : List (Bor (List ℕ))) (place : ℕ) (all : List Renamed) : Type 0 where
   pub real : All (IsReal plan old new) all
   pub apart : AreApart all
-  pub told : (way : Way) (q : Question) → IsQuestion plan q → is_among q.client clients ≡ true
+  pub shown : (way : Way) (q : Question) → IsQuestion plan q → is_among q.client clients ≡ true
       → in_parts (take place regions) q.topic ≡ true → is_changed way old new q ≡ true
-      → list_any (is_told_of plan old new way q) all ≡ true
+      → list_any (is_shown_of plan old new way q) all ≡ true
 
 pub regions_more : (plan : List PlanRule) (old new : List Row) (regions : List Region)
     (clients : List (Bor (List ℕ))) (place : ℕ) (region : Region) (all more : List Renamed)
     → place < length regions → region ≡ get_or regions place region
-    → Grows plan old new all more → TellsTriedIn plan old new region clients more
+    → Grows plan old new all more → ShowsTriedIn plan old new region clients more
     → AreRegionsDone plan old new regions clients place all
     → AreRegionsDone plan old new regions clients (place + 1) more
 regions_more plan old new regions clients place region all more h is g t f = record {
   real = g.real f.real;
   apart = g.apart f.apart;
-  told = λ way q asked c e k.
+  shown = λ way q asked c e k.
       at way q asked c k (in_parts (take place regions) q.topic) (in_region region q.topic)
       refl refl
       (sym (ap (λ rs. in_parts rs q.topic) (take_more regions place region h)
@@ -146,8 +147,8 @@ regions_more plan old new regions clients place region all more h is g t f = rec
     at : (way : Way) (q : Question) → IsQuestion plan q → is_among q.client clients ≡ true
         → is_changed way old new q ≡ true → (a b : Bool)
         → in_parts (take place regions) q.topic ≡ a → in_region region q.topic ≡ b
-        → (a || (b || false)) ≡ true → list_any (is_told_of plan old new way q) more ≡ true
-    at way q asked c k true b i j e = g.kept way q (f.told way q asked c i k)
+        → (a || (b || false)) ≡ true → list_any (is_shown_of plan old new way q) more ≡ true
+    at way q asked c k true b i j e = g.kept way q (f.shown way q asked c i k)
     at way q asked c k false true i j e = t way q asked c j k
     at way q asked c k false false i j e = absurd (let z : false ≡ true = e in cc)
 
@@ -155,9 +156,9 @@ pub regions_all : (plan : List PlanRule) (old new : List Row) (regions : List Re
     (clients : List (Bor (List ℕ))) (place : ℕ) (all : List Renamed)
     → length regions ≤ place → AreParts plan regions
     → AreRegionsDone plan old new regions clients place all
-    → TellsTried plan old new clients all
+    → ShowsTried plan old new clients all
 regions_all plan old new regions clients place all h parts f way q asked c k =
-    f.told way q asked c
+    f.shown way q asked c
     (ap (λ rs. in_parts rs q.topic) (take_all place regions h)
     ∙ parts.all q.topic q.name asked.name) k
 

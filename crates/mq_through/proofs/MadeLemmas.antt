@@ -184,21 +184,21 @@ first_of region d some s = record {
     not_false false e = refl
 
 -- ---- classes
--- whom the made lists put into a class, the lists put into the one that is told
-pub class_told : (old new made_old made_new : List AclRow) (users : List (Bor (List ℕ)))
+-- whom the made lists put into a class, the lists put into the one that is shown
+pub class_shown : (old new made_old made_new : List AclRow) (users : List (Bor (List ℕ)))
     (user : Option (List ℕ)) (class : Class)
     → ((name : List ℕ) → is_among name users ≡ is_listed old new name)
     → ((name : List ℕ) → is_among name users ≡ true → is_user_of name made_old ≡ true)
     → is_in made_old made_new user class ≡ true
     → is_in old new user (class_in users class) ≡ true
-class_told old new mo mn users None Anonymous all named h = refl
-class_told old new mo mn users (Some user) Anonymous all named h =
+class_shown old new mo mn users None Anonymous all named h = refl
+class_shown old new mo mn users (Some user) Anonymous all named h =
     absurd (let q : false ≡ true = h in cc)
-class_told old new mo mn users None (User name) all named h =
+class_shown old new mo mn users None (User name) all named h =
     absurd (let q : false ≡ true = h in cc)
-class_told old new mo mn users None (Others name) all named h =
+class_shown old new mo mn users None (Others name) all named h =
     absurd (let q : false ≡ true = h in cc)
-class_told old new mo mn users (Some user) (User name) all named h =
+class_shown old new mo mn users (Some user) (User name) all named h =
     at (is_among (string_bytes name) users) refl
   where
     here : bytes_eq user (string_bytes name) ≡ true
@@ -212,7 +212,7 @@ class_told old new mo mn users (Some user) (User name) all named h =
     at true e = and_from (bytes_eq user (string_bytes name)) (is_listed old new user) here
         (listed ∙ e)
     at false e = ap not (listed ∙ e)
-class_told old new mo mn users (Some user) (Others name) all named h =
+class_shown old new mo mn users (Some user) (Others name) all named h =
     at (is_among user users) refl
   where
     at : (b : Bool) → is_among user users ≡ b → not (is_listed old new user) ≡ true

@@ -1,4 +1,4 @@
--- What lists and plans have to keep to, and what is told where they can't be compared.
+-- What lists and plans have to keep to, and what is shown where they can't be compared.
 use Rattle.std.specs.Prelude.{◌≡◌, ℕ, Bool, true, false, List, ◌||◌, find, ⊤}
 use Rattle.std.specs.Prelude.{Option, Some, None}
 use Rattle.std.specs.Option.{option_map}
@@ -64,7 +64,7 @@ pub record HasNoName (plan : List PlanRule) (line : ℕ) (topic : List ℕ) : Ty
 abbrev pub IsLongName : List PlanRule → ℕ → Type 0
 IsLongName plan line = (topic : List ℕ) × ((is_name topic ≡ true) × HasNoName plan line topic)
 
--- what is told is so
+-- what is shown is so
 abbrev pub IsThroughFault : List PlanRule → (old new : List Row) → ThroughFault → Type 0
 IsThroughFault plan old new faults.Memory = ⊤
 IsThroughFault plan old new (faults.OldLine line) = long_line old ≡ Some line

@@ -70,8 +70,8 @@ same_line (Some line) (Some other) = line == other
 
 -- it is of this way and direction, of the class of this client, of topics that begin with `$` if
 -- this one does, and the lines that decide it decide this
-abbrev pub is_told_of : List PlanRule → (old new : List Row) → Way → Question → Renamed → Bool
-is_told_of plan old new way q r =
+abbrev pub is_shown_of : List PlanRule → (old new : List Row) → Way → Question → Renamed → Bool
+is_shown_of plan old new way q r =
     is_in (row_views old) (row_views new) q.user r.difference.class
     && same_direction q.direction r.difference.direction
     && same_way way r.difference.way && same_start q.topic r.difference.topic
@@ -79,11 +79,11 @@ is_told_of plan old new way q r =
     && same_reason (new_reason new q) r.difference.new_reason
     && same_line (rule_line plan q.topic) r.rule
 
--- whatever changes is told
-abbrev pub TellsAll : List PlanRule → (old new : List Row) → List Renamed → Type 0
-TellsAll plan old new all = (way : Way) (q : Question) → IsQuestion plan q
+-- whatever changes is shown
+abbrev pub ShowsAll : List PlanRule → (old new : List Row) → List Renamed → Type 0
+ShowsAll plan old new all = (way : Way) (q : Question) → IsQuestion plan q
     → is_changed way old new q ≡ true
-    → list_any (is_told_of plan old new way q) all ≡ true
+    → list_any (is_shown_of plan old new way q) all ≡ true
 
 -- both are of the same class, direction and way, of topics that begin with `$` or of others, and
 -- the same lines decide them
@@ -100,7 +100,7 @@ is_alike r s = same_class r.difference.class s.difference.class
 abbrev pub AreApart : List Renamed → Type 0
 AreApart all = AllPairs (λ r s. is_alike s r ≡ false) all
 
--- what it tells of
+-- what it speaks of
 abbrev pub question_of : Renamed → Question
 question_of r = record {
   client = string_bytes r.difference.client;

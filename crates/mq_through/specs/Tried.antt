@@ -1,4 +1,4 @@
--- What is told of the client ids that are tried.
+-- What is shown of the client ids that are tried.
 use Rattle.std.specs.Prelude.{◌≡◌, ℕ, true, List, All, Option, Some, None, ⊤}
 use Rattle.std.specs.List.{list_any}
 use denote.Ref.{Bor}
@@ -9,26 +9,27 @@ use Rattle.mq_regions.specs.Regions.{in_region}
 use Rattle.mq_regions.specs.declared.region.Region.{Region}
 use Rattle.mq_witness.specs.Literals.{is_among}
 use Rattle.mq_through.specs.Made.{IsClient, IsMade, SameRows}
-use Rattle.mq_through.specs.Through.{AreApart, IsQuestion, IsReal, Question, is_changed, is_told_of}
+use Rattle.mq_through.specs.Through.{AreApart, IsQuestion, IsReal}
+use Rattle.mq_through.specs.Through.{Question, is_changed, is_shown_of}
 use Rattle.mq_through.specs.declared.lists.Comparison.{Comparison}
 use Rattle.mq_through.specs.declared.made.Made.{Made}
 use Rattle.mq_through.specs.declared.renamed.Renamed.{Renamed}
 
--- more is told, and all of it is so
+-- more is shown, and all of it is so
 pub record Grows (plan : List PlanRule) (old new : List Row) (before after : List Renamed) :
     Type 0 where
   pub kept : (way : Way) (q : Question)
-      → list_any (is_told_of plan old new way q) before ≡ true
-      → list_any (is_told_of plan old new way q) after ≡ true
+      → list_any (is_shown_of plan old new way q) before ≡ true
+      → list_any (is_shown_of plan old new way q) after ≡ true
   pub real : All (IsReal plan old new) before → All (IsReal plan old new) after
   pub apart : AreApart before → AreApart after
 
--- whatever changes for this client in the region is told
-abbrev pub TellsIn : List PlanRule → (old new : List Row) → Region → List ℕ → List Renamed
+-- whatever changes for this client in the region is shown
+abbrev pub ShowsChangesIn : List PlanRule → (old new : List Row) → Region → List ℕ → List Renamed
     → Type 0
-TellsIn plan old new region client all = (way : Way) (q : Question) → IsQuestion plan q
+ShowsChangesIn plan old new region client all = (way : Way) (q : Question) → IsQuestion plan q
     → q.client ≡ client → in_region region q.topic ≡ true → is_changed way old new q ≡ true
-    → list_any (is_told_of plan old new way q) all ≡ true
+    → list_any (is_shown_of plan old new way q) all ≡ true
 
 -- the last lists have the rows of these
 abbrev pub IsLastMade : (last : Option Made) → Made → Type 0
@@ -36,27 +37,27 @@ IsLastMade None made = ⊥
 IsLastMade (Some last) made =
     SameRows last.old.items made.old.items × SameRows last.new.items made.new.items
 
--- they were made for a client for whom whatever changes in the region is told
+-- they were made for a client for whom whatever changes in the region is shown
 abbrev pub IsTried : Comparison → Region → (last : Option Made) → List Renamed → Type 0
 IsTried k region None all = ⊤
 IsTried k region (Some last) all = (client : List ℕ) × IsClient client
     × IsMade k region client last
-    × TellsIn k.plan.now k.old.now k.new.now region client all
+    × ShowsChangesIn k.plan.now k.old.now k.new.now region client all
 
--- whatever changes for these clients is told
-abbrev pub TellsTried : List PlanRule → (old new : List Row) → List (Bor (List ℕ)) → List Renamed
+-- whatever changes for these clients is shown
+abbrev pub ShowsTried : List PlanRule → (old new : List Row) → List (Bor (List ℕ)) → List Renamed
     → Type 0
-TellsTried plan old new clients all = (way : Way) (q : Question) → IsQuestion plan q
+ShowsTried plan old new clients all = (way : Way) (q : Question) → IsQuestion plan q
     → is_among q.client clients ≡ true → is_changed way old new q ≡ true
-    → list_any (is_told_of plan old new way q) all ≡ true
+    → list_any (is_shown_of plan old new way q) all ≡ true
 
 -- in the region
-abbrev pub TellsTriedIn : List PlanRule → (old new : List Row) → Region → List (Bor (List ℕ))
+abbrev pub ShowsTriedIn : List PlanRule → (old new : List Row) → Region → List (Bor (List ℕ))
     → List Renamed → Type 0
-TellsTriedIn plan old new region clients all = (way : Way) (q : Question) → IsQuestion plan q
+ShowsTriedIn plan old new region clients all = (way : Way) (q : Question) → IsQuestion plan q
     → is_among q.client clients ≡ true → in_region region q.topic ≡ true
     → is_changed way old new q ≡ true
-    → list_any (is_told_of plan old new way q) all ≡ true
+    → list_any (is_shown_of plan old new way q) all ≡ true
 
 -- lists can be made for each of them
 abbrev pub AreClients : List (Bor (List ℕ)) → Type 0

@@ -1,4 +1,4 @@
-//! What is told once.
+//! What is shown once.
 ghost use Rattle.std.specs.Prelude.{◌≡◌, ◌++◌, ◌∷◌, [], OnOk, if◌then◌else◌};
 ghost use Rattle.std.specs.List.{list_any};
 ghost use Rattle.mq_acl.specs.Access.{begins_with_dollar};

@@ -2,7 +2,7 @@
 ghost use Rattle.std.specs.Prelude.{◌≡◌, [], All, IfOk, IfErr};
 ghost use Rattle.mq_through.specs.Checks.{AreFit, IsThroughFault};
 ghost use Rattle.mq_through.specs.Made.{IsComparison};
-ghost use Rattle.mq_through.specs.Through.{AreApart, IsQuestion, IsReal, Question, TellsAll};
+ghost use Rattle.mq_through.specs.Through.{AreApart, IsQuestion, IsReal, Question, ShowsAll};
 ghost use Rattle.mq_through.specs.Through.{new_allows, old_allows};
 
 use crate::check::first_fault;
@@ -50,7 +50,7 @@ fn changes(alloc: Global, comparison: &Comparison) -> Result<Vec<Renamed>, Throu
     ensures real { IfOk result (λ all. All (IsReal comparison.now.plan.now comparison.now.old.now
         comparison.now.new.now) all.items) }
     ensures once { IfOk result (λ all. AreApart all.items) }
-    ensures every { IfOk result (λ all. TellsAll comparison.now.plan.now comparison.now.old.now
+    ensures every { IfOk result (λ all. ShowsAll comparison.now.plan.now comparison.now.old.now
         comparison.now.new.now all.items) }
     ensures fault { IfErr result (IsThroughFault comparison.now.plan.now comparison.now.old.now
         comparison.now.new.now) }
@@ -84,7 +84,7 @@ pub fn compare_through(
     new: &[Row],
     steps: u64,
 ) -> Result<Vec<Renamed>, ThroughFault>
-    ensures every { IfOk result (λ all. TellsAll plan.now old.now new.now all.items) }
+    ensures every { IfOk result (λ all. ShowsAll plan.now old.now new.now all.items) }
     ensures real { IfOk result (λ all. All (IsReal plan.now old.now new.now) all.items) }
     ensures once { IfOk result (λ all. AreApart all.items) }
     ensures same { IfOk result (λ all. all.items ≡ [] → (q : Question) → IsQuestion plan.now q

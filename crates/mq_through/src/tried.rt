@@ -3,7 +3,7 @@ ghost use Rattle.std.specs.Prelude.{◌≡◌, All, IfOk, IfErr, OnOk, false, tr
 ghost use Rattle.std.specs.Option.{option_copied};
 ghost use Rattle.mq_acl.specs.Views.{row_views};
 ghost use Rattle.mq_acl.specs.declared.rules.Rules.TheVariants as rules;
-ghost use Rattle.mq_findings.specs.Differences.{IsReal, TellsAll};
+ghost use Rattle.mq_findings.specs.Differences.{IsReal, ShowsAll};
 ghost use Rattle.mq_findings.specs.declared.class.Class.{Class};
 ghost use Rattle.mq_regions.specs.Limits.{has_long_row};
 ghost use Rattle.mq_through.specs.Checks.{IsThroughFault};
@@ -11,8 +11,8 @@ ghost use Rattle.mq_through.specs.Made.{HasRule, IsClient, IsComparison, IsNameF
 ghost use Rattle.mq_through.specs.Made.{IsCompareStop, IsMade, IsStop, class_in};
 ghost use Rattle.mq_through.specs.Parts.{AreParts, IsPart};
 ghost use Rattle.mq_through.specs.Through as through;
-ghost use Rattle.mq_through.specs.Tried.{AreClients, Grows, IsLastMade, IsTried, TellsIn};
-ghost use Rattle.mq_through.specs.Tried.{TellsTried, TellsTriedIn};
+ghost use Rattle.mq_through.specs.Tried.{AreClients, Grows, IsLastMade, IsTried, ShowsChangesIn};
+ghost use Rattle.mq_through.specs.Tried.{ShowsTried, ShowsTriedIn};
 
 use crate::fault::ThroughFault;
 use crate::like::add;
@@ -70,7 +70,7 @@ fn differences(
 ) -> Result<Vec<Difference>, ThroughFault>
     requires old { has_long_row (row_views old.now) ≡ false }
     requires new { has_long_row (row_views new.now) ≡ false }
-    ensures every { IfOk result (λ all. TellsAll rules.Own old.now new.now all.items) }
+    ensures every { IfOk result (λ all. ShowsAll rules.Own old.now new.now all.items) }
     ensures real { IfOk result (λ all. All (IsReal rules.Own old.now new.now) all.items) }
     ensures fault { IfErr result IsStop }
 {
@@ -128,7 +128,7 @@ fn add_client(
     requires made { IsMade comparison.now region.now client.now made.now }
     ensures grows { OnOk result (Grows comparison.now.plan.now comparison.now.old.now
         comparison.now.new.now found.old.items found.new.items) }
-    ensures told { OnOk result (TellsIn comparison.now.plan.now comparison.now.old.now
+    ensures shown { OnOk result (ShowsChangesIn comparison.now.plan.now comparison.now.old.now
         comparison.now.new.now region.now client.now found.new.items) }
     ensures fault { IfErr result (IsThroughFault comparison.now.plan.now comparison.now.old.now
         comparison.now.new.now) }
@@ -166,7 +166,7 @@ fn add_next(
     requires last { IsTried comparison.now region.now (option_copied last) found.old.items }
     ensures grows { OnOk result (Grows comparison.now.plan.now comparison.now.old.now
         comparison.now.new.now found.old.items found.new.items) }
-    ensures told { OnOk result (TellsIn comparison.now.plan.now comparison.now.old.now
+    ensures shown { OnOk result (ShowsChangesIn comparison.now.plan.now comparison.now.old.now
         comparison.now.new.now region.now client.now found.new.items) }
     ensures made { IfOk result (IsMade comparison.now region.now client.now) }
     ensures fault { IfErr result (IsThroughFault comparison.now.plan.now comparison.now.old.now
@@ -193,7 +193,7 @@ fn add_region(
     requires clients { AreClients clients.now }
     ensures grows { OnOk result (Grows comparison.now.plan.now comparison.now.old.now
         comparison.now.new.now found.old.items found.new.items) }
-    ensures told { OnOk result (TellsTriedIn comparison.now.plan.now comparison.now.old.now
+    ensures shown { OnOk result (ShowsTriedIn comparison.now.plan.now comparison.now.old.now
         comparison.now.new.now region.now clients.now found.new.items) }
     ensures fault { IfErr result (IsThroughFault comparison.now.plan.now comparison.now.old.now
         comparison.now.new.now) }
@@ -219,7 +219,7 @@ pub(crate) fn compare_tried(
     ensures real { IfOk result (λ all. All (through.IsReal comparison.now.plan.now
         comparison.now.old.now comparison.now.new.now) all.items) }
     ensures once { IfOk result (λ all. through.AreApart all.items) }
-    ensures told { IfOk result (λ all. TellsTried comparison.now.plan.now comparison.now.old.now
+    ensures shown { IfOk result (λ all. ShowsTried comparison.now.plan.now comparison.now.old.now
         comparison.now.new.now clients.now all.items) }
     ensures fault { IfErr result (IsThroughFault comparison.now.plan.now comparison.now.old.now
         comparison.now.new.now) }

@@ -99,8 +99,8 @@ is_memory Memory = true
 is_memory fault = false
 
 -- what a parse's fault says of the text: lack of memory, that it has none
-abbrev pub told : TopicFault → Option TopicFault
-told fault = if is_memory fault then None else Some fault
+abbrev pub of_text : TopicFault → Option TopicFault
+of_text fault = if is_memory fault then None else Some fault
 
 -- the parse took the text for valid
 abbrev pub accepts : {X : Type 0} → Result X TopicFault → Bool

@@ -1,5 +1,5 @@
 ghost use Rattle.std.specs.Prelude.{◌≡◌, IfOk, IfErr, IsTrue};
-ghost use Rattle.mq_topic.specs.Texts.{filter_fault, told, accepts, is_filter};
+ghost use Rattle.mq_topic.specs.Texts.{filter_fault, of_text, accepts, is_filter};
 ghost use Rattle.std.specs.Prelude.{Some, nat_eq};
 ghost use Rattle.std.specs.Ordering.{nat_cmp};
 ghost use Rattle.std.specs.Cmp;
@@ -47,7 +47,7 @@ impl TopicFilter {
     pub fn parse(alloc: Global, text: &str) -> Result<TopicFilter, TopicFault>
         ensures text { IfOk result (λ filter. filter ≡ text.now) }
         ensures valid { accepts result ≡ is_filter text.now }
-        ensures fault { IfErr result (λ fault. filter_fault text.now ≡ told fault) }
+        ensures fault { IfErr result (λ fault. filter_fault text.now ≡ of_text fault) }
     {
         if let Some(fault) = filter_fault(text) {
             return Err(fault);

@@ -1,5 +1,5 @@
 ghost use Rattle.std.specs.Prelude.{◌≡◌, IfOk, IfErr, IsTrue};
-ghost use Rattle.mq_topic.specs.Texts.{name_fault, told, accepts, is_name, is_filter};
+ghost use Rattle.mq_topic.specs.Texts.{name_fault, of_text, accepts, is_name, is_filter};
 ghost use Rattle.std.specs.Prelude.{Some, nat_eq};
 ghost use Rattle.std.specs.Ordering.{nat_cmp};
 ghost use Rattle.std.specs.Cmp;
@@ -44,7 +44,7 @@ impl TopicName {
     pub fn parse(alloc: Global, text: &str) -> Result<TopicName, TopicFault>
         ensures text { IfOk result (λ name. name ≡ text.now) }
         ensures valid { accepts result ≡ is_name text.now }
-        ensures fault { IfErr result (λ fault. name_fault text.now ≡ told fault) }
+        ensures fault { IfErr result (λ fault. name_fault text.now ≡ of_text fault) }
     {
         if let Some(fault) = name_fault(text) {
             return Err(fault);

@@ -1,7 +1,7 @@
 ghost use Rattle.std.specs.Prelude.{◌≡◌, IfOk, IfErr, IfSome, is_none, false, Some, IsTrue};
 ghost use Rattle.std.specs.Prelude.{string_bytes};
 ghost use Rattle.std.specs.Option.{option_map, option_copied};
-ghost use Rattle.mq_topic.specs.Texts.{subscription_fault, told, accepts, is_memory};
+ghost use Rattle.mq_topic.specs.Texts.{subscription_fault, of_text, accepts, is_memory};
 ghost use Rattle.mq_topic.specs.Texts.{is_subscription, share_of, share_fits, filter_part};
 
 use crate::fault::TopicFault;
@@ -27,7 +27,7 @@ impl SubFilter {
         ensures parts { IfOk result (λ sub. (option_map string_bytes sub.share ≡ share_of text.now)
             × (sub.filter ≡ filter_part text.now)) }
         ensures valid { accepts result ≡ is_subscription text.now }
-        ensures fault { IfErr result (λ fault. subscription_fault text.now ≡ told fault) }
+        ensures fault { IfErr result (λ fault. subscription_fault text.now ≡ of_text fault) }
     {
         if let Some(fault) = subscription_fault(text) {
             return Err(fault);

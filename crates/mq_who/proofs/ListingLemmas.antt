@@ -16,7 +16,7 @@ use Rattle.mq_witness.specs.Limits.{has_short_levels}
 use Rattle.mq_witness.specs.Rows.{rows_name}
 use Rattle.mq_witness.specs.Swaps.{swap, swap_user, swap_name}
 use Rattle.mq_findings.specs.Classes.{is_in, user_of}
-use Rattle.mq_findings.specs.Differences.{AreUnnamed, IsKnown, IsMarked, TellsAll, is_told_of, same_way}
+use Rattle.mq_findings.specs.Differences.{AreUnnamed, IsKnown, IsMarked, ShowsAll, is_shown_of, same_way}
 use Rattle.mq_findings.specs.Differences.{same_class, same_direction, same_reason, same_start}
 use Rattle.mq_findings.specs.Differences as differences
 use Rattle.mq_findings.specs.Faults.{IsComparisonFault}
@@ -133,7 +133,7 @@ module _ (rules : Rules) (allows : Bool) (rows : List Row) (wanted : List ℕ) (
 
   listed : (direction : Direction) (client : List ℕ) (user : Option (List ℕ)) (topic : List ℕ)
       → reason_of rules made client user topic direction ≡ decides allows → (d : Difference)
-      → is_told_of rules rows made (way_of allows) direction client user topic d ≡ true
+      → is_shown_of rules rows made (way_of allows) direction client user topic d ≡ true
       → (is_listed_in rules rows direction client user topic d ≡ true) × (kept d ≡ true)
   listed direction client user topic r d e =
       let both = parts (is_in (row_views rows) (row_views made) user d.class)
@@ -211,7 +211,7 @@ module _ (rules : Rules) (allows : Bool) (rows : List Row) (wanted : List ℕ) (
           parts true false w s o n x y e = refl
           parts false dir w s o n x y e = refl
 
-  listing_of : (all : List Difference) → TellsAll rules rows made all
+  listing_of : (all : List Difference) → ShowsAll rules rows made all
       → All (differences.IsReal rules rows made) all → differences.AreApart all
       → differences.AreMarked rules rows made all
       → IsListing rules allows rows wanted (filter kept all)
@@ -219,7 +219,7 @@ module _ (rules : Rules) (allows : Bool) (rows : List Row) (wanted : List ℕ) (
     lists = λ direction client topic user c u q v e.
         let is = case_changes allows wanted row view line rules rows client user topic direction e
         in
-        any_kept (is_told_of rules rows made (way_of allows) direction client user topic)
+        any_kept (is_shown_of rules rows made (way_of allows) direction client user topic)
         (is_listed_in rules rows direction client user topic) kept
         (listed direction client user topic is.1) all
         (t (way_of allows) direction client topic user c u
@@ -247,13 +247,13 @@ module _ (rules : Rules) (allows : Bool) (rows : List Row) (wanted : List ℕ) (
 
 -- ---- what is said of any list that was made
 pub listing : (rules : Rules) (allows : Bool) (rows : List Row) (wanted : List ℕ) (new : List Row)
-    (all : List Difference) → IsMade allows wanted new → TellsAll rules rows new all
+    (all : List Difference) → IsMade allows wanted new → ShowsAll rules rows new all
     → All (differences.IsReal rules rows new) all → differences.AreApart all
     → differences.AreMarked rules rows new all
     → IsListing rules allows rows wanted
     (filter (λ (d : Difference). is_decided d.new_reason) all)
 listing rules allows rows wanted new all m =
-    subst (λ (l : List Row). TellsAll rules rows l all
+    subst (λ (l : List Row). ShowsAll rules rows l all
     → All (differences.IsReal rules rows l) all → differences.AreApart all
     → differences.AreMarked rules rows l all
     → IsListing rules allows rows wanted

@@ -78,7 +78,7 @@ found_hits q start must cover marks ls name w e h known =
           (ap (remainders_fit p) w.must_is ∙ fit);
     }
 
--- a fault of which no text can be told is want of memory
+-- a fault of which no text can be shown is want of memory
 pub memory_is : (fault : TopicFault) → is_memory fault ≡ true → fault ≡ Memory
 memory_is Empty e = absurd (let f : false ≡ true = e in cc)
 memory_is TooLong e = absurd (let f : false ≡ true = e in cc)

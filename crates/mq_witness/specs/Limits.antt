@@ -1,4 +1,4 @@
--- The limit that lists have to keep to, and what is told of one that doesn't.
+-- The limit that lists have to keep to, and what is shown of one that doesn't.
 use Rattle.std.specs.Prelude.{◌≡◌, ℕ, Bool, true, List, ◌&&◌, not, length, nat_le, find, ⊤}
 use Rattle.std.specs.Prelude.{Option, Some, None, slice_get}
 use denote.Ref.{Bor}
@@ -62,7 +62,7 @@ pub record IsMarkedLine (rules : Rules) (lists : List (Bor (List Row))) (place l
     pub placed : slice_get lists place ≡ Some list
     pub marked : marked_line rules list.now ≡ Some line
 
--- what is told of the lists is so
+-- what is shown of the lists is so
 abbrev pub IsFault : Rules → List (Bor (List Row)) → ListFault → Type 0
 IsFault rules lists Memory = ⊤
 IsFault rules lists (Line place line) = IsLongLine lists place line

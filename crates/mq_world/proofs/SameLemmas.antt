@@ -149,7 +149,7 @@ greatest-SameElements ms ns same =
 
 -- ## Ascending numbers
 
--- the test tells the order: it holds and m is at most n, or it fails and n is less than m
+-- the test shows the order: it holds and m is at most n, or it fails and n is less than m
 pub le_cases : (m n : ℕ) → ((nat_le m n ≡ true) × (m ≤ n)) ⊎ ((nat_le m n ≡ false) × (n < m))
 le_cases m n =
     let P : Bool → Type 0 = λ b. nat_le m n ≡ b → ((b ≡ true) × (m ≤ n))

@@ -10,7 +10,7 @@ use Rattle.mq_findings.specs.Classes.{is_in}
 use Rattle.mq_findings.specs.Differences.{same_direction, same_reason, same_start, same_way}
 use Rattle.mq_findings.specs.declared.way.Way.{Way}
 use Rattle.mq_plan.specs.declared.rule.PlanRule.{PlanRule}
-use Rattle.mq_through.specs.Through.{IsReal, Question, TellsAll, is_changed, is_told_of}
+use Rattle.mq_through.specs.Through.{IsReal, Question, ShowsAll, is_changed, is_shown_of}
 use Rattle.mq_through.specs.Through.{new_reason, old_reason, question_of, rule_line, same_line}
 use Rattle.mq_through.specs.declared.renamed.Renamed.{Renamed}
 use Rattle.mq_who.proofs.ExtentLemmas.{any_weaker}
@@ -20,21 +20,21 @@ use Rattle.mq_acl_answers.specs.declared.outcome.Outcome.TheVariants.{Clear, Rem
 use Rattle.mq_acl_answers.proofs.CompareLemmas.{not_true, way_is}
 use Rattle.mq_acl_plan.specs.Renamed.{AreRenamed}
 use Rattle.mq_acl_plan.specs.declared.find.RenamedChanges.{RenamedChanges}
-use Rattle.mqroute_acl.specs.Plan.{IsComparedThrough, TellsThrough, has_way}
+use Rattle.mqroute_acl.specs.Plan.{IsComparedThrough, ShowsThrough, has_way}
 
 -- where one is of a way that is asked about, something changes in it
 some_changes : (only : Option Way) (plan : List PlanRule) (old new : List Row)
     (all : List Renamed) → has_way only all ≡ true → All (IsReal plan old new) all
-    → TellsThrough only plan old new Remark
+    → ShowsThrough only plan old new Remark
 some_changes only plan old new [] some real = absurd (true≢false (sym some))
 some_changes only plan old new (r ∷ rs) some real =
     at (λ rest. some_changes only plan old new rs rest (λ place e low. real (suc place) e
     (let more : suc place < suc (length rs) = omega arith in more)))
     (or_cases (is_way only r.difference.way) (has_way only rs) some)
   where
-    at : (has_way only rs ≡ true → TellsThrough only plan old new Remark)
+    at : (has_way only rs ≡ true → ShowsThrough only plan old new Remark)
         → (is_way only r.difference.way ≡ true) ⊎ (has_way only rs ≡ true)
-        → TellsThrough only plan old new Remark
+        → ShowsThrough only plan old new Remark
     at behind (inl this) =
         let is : IsReal plan old new r =
         real 0 r (let low : 0 < suc (length rs) = omega arith in low) in
@@ -43,7 +43,7 @@ some_changes only plan old new (r ∷ rs) some real =
 
 of_way : (only : Option Way) (plan : List PlanRule) (old new : List Row) (way : Way)
     (q : Question) (r : Renamed) → is_way only way ≡ true
-    → is_told_of plan old new way q r ≡ true → is_way only r.difference.way ≡ true
+    → is_shown_of plan old new way q r ≡ true → is_way only r.difference.way ≡ true
 of_way only plan old new way q r asked is =
     let class = is_in (row_views old) (row_views new) q.user r.difference.class in
     let direction = same_direction q.direction r.difference.direction in
@@ -61,21 +61,22 @@ of_way only plan old new way q r asked is =
 
 -- where none is of a way that is asked about, nothing changes in it
 none_changes : (only : Option Way) (plan : List PlanRule) (old new : List Row)
-    (all : List Renamed) → TellsAll plan old new all → has_way only all ≡ false
-    → TellsThrough only plan old new Clear
+    (all : List Renamed) → ShowsAll plan old new all → has_way only all ≡ false
+    → ShowsThrough only plan old new Clear
 none_changes only plan old new all every none way q asked is =
     not_true (is_changed way old new q)
-    (λ changes. true≢false (sym (any_weaker (is_told_of plan old new way q)
-    (λ r. is_way only r.difference.way) (λ r told. of_way only plan old new way q r asked told) all
+    (λ changes. true≢false (sym (any_weaker (is_shown_of plan old new way q)
+    (λ r. is_way only r.difference.way)
+    (λ r shown. of_way only plan old new way q r asked shown) all
     (every way q is changes)) ∙ none))
 
-told : (only : Option Way) (plan : List PlanRule) (old new : List Row) (all : List Renamed)
-    (outcome : Outcome) → TellsAll plan old new all → All (IsReal plan old new) all
+shown : (only : Option Way) (plan : List PlanRule) (old new : List Row) (all : List Renamed)
+    (outcome : Outcome) → ShowsAll plan old new all → All (IsReal plan old new) all
     → (outcome ≡ Clear → has_way only all ≡ false)
-    → (outcome ≡ Remark → has_way only all ≡ true) → TellsThrough only plan old new outcome
-told only plan old new all Clear every real none some =
+    → (outcome ≡ Remark → has_way only all ≡ true) → ShowsThrough only plan old new outcome
+shown only plan old new all Clear every real none some =
     none_changes only plan old new all every (none refl)
-told only plan old new all Remark every real none some =
+shown only plan old new all Remark every real none some =
     some_changes only plan old new all (some refl) real
 
 -- whether there is a change that is asked about says whether the lists decide alike through the
@@ -93,6 +94,6 @@ compared_through rules only old new plan c outcome own are none some = record {
   old_read = are.old_rows;
   new_read = are.new_rows;
   plan_read = are.rules;
-  told = told only c.plan c.old.items c.new.items c.renamed.items outcome are.every are.real none
+  shown = shown only c.plan c.old.items c.new.items c.renamed.items outcome are.every are.real none
       some;
 }

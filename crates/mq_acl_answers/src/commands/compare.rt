@@ -195,7 +195,7 @@ fn answer_text(
 /// steps suffice to know it, and notes of whom it isn't known, and by our own rules where mosquitto
 /// decides otherwise. Where a script is given, its publishes that each difference is about at most
 /// are counted.
-pub fn tell_changes<'a, W: Write>(
+pub fn show_changes<'a, W: Write>(
     alloc: Global,
     old: ListText<'a, '_>,
     new: ListText<'a, '_>,

@@ -63,10 +63,10 @@ fn has_fault(odd: &[Remark]) -> bool
     odd.iter().any(|remark| is_fault(remark.kind))
 }
 
-fn has_needless(told: &[Remark]) -> bool
-    ensures { result ≡ has_needless told.now }
+fn has_needless(shown: &[Remark]) -> bool
+    ensures { result ≡ has_needless shown.now }
 {
-    told.iter().any(|remark| matters(remark.kind))
+    shown.iter().any(|remark| matters(remark.kind))
 }
 
 fn needless_failure<'a>(
@@ -97,11 +97,11 @@ fn needless_in<'a>(
     steps: u64,
 ) -> Result<Vec<Remark>, Failure<'a>>
     requires { AreRows rules list.text.now rows.now }
-    ensures ok { IfOk result (λ told. AreNeedless rules rows.entry.now told.items) }
+    ensures ok { IfOk result (λ shown. AreNeedless rules rows.entry.now shown.items) }
     ensures err { IfErr result (IsLintFailure rules list.entry steps) }
 {
     match needless(alloc, rules, rows, steps) {
-        Ok(told) => Ok(told),
+        Ok(shown) => Ok(shown),
         Err(fault) => Err(needless_failure(rules, list, rows, fault)),
     }
 }

@@ -132,7 +132,7 @@ fn outcome_of(found: &Option<TopicName>) -> Outcome
 
 /// Shows a topic that a subscription of this client can be sent, or that it can receive nothing; and notes by our
 /// own rules where mosquitto decides otherwise.
-pub fn tell_reach<'a, W: Write>(
+pub fn show_reach<'a, W: Write>(
     alloc: Global,
     list: ListText<'a, '_>,
     client: Client<'a>,

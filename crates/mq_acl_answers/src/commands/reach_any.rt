@@ -9,7 +9,7 @@ ghost use Rattle.mq_expect.specs.Views.{claim_view, whom_view};
 ghost use Rattle.mq_acl_answers.specs.Answers.{AreRows};
 ghost use Rattle.mq_acl_answers.specs.Notes.{IsQuiet};
 ghost use Rattle.mq_acl_answers.specs.ReachAny.{IsAnyFailure, IsFound, IsFoundIn, IsReachedByAny};
-ghost use Rattle.mq_acl_answers.specs.ReachAny.{TellsWhetherAny, claim_about, whom_for};
+ghost use Rattle.mq_acl_answers.specs.ReachAny.{SaysWhetherAny, claim_about, whom_for};
 ghost use Rattle.mq_acl_answers.specs.Statuses.{failure_status};
 
 use crate::commands::who::{filter_of, who_failure};
@@ -103,7 +103,7 @@ pub fn find_any<'a>(
 // Whether one is found.
 fn outcome_of(found: &Option<Difference>) -> Outcome
     ensures { (rules : Rules) (rows : List AclRow) (user : Option (List ℕ)) (wanted : List ℕ)
-        → IsFound rules rows user wanted found.now → TellsWhetherAny rules rows user wanted result }
+        → IsFound rules rows user wanted found.now → SaysWhetherAny rules rows user wanted result }
 {
     match found {
         None => Outcome::Remark,
@@ -114,7 +114,7 @@ fn outcome_of(found: &Option<Difference>) -> Outcome
 /// Shows a client with this user name, or without one, and a topic that the filter matches and that
 /// it can be sent, or that none of them can be sent anything; and notes of whom it isn't known, and
 /// by our own rules where mosquitto decides otherwise.
-pub fn tell_reach_any<'a, W: Write>(
+pub fn show_reach_any<'a, W: Write>(
     alloc: Global,
     list: ListText<'a, '_>,
     user: Option<&'a str>,

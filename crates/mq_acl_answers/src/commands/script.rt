@@ -5,7 +5,7 @@ ghost use Rattle.std.specs.Io.KnownBytes.{Consumes, IsAtEnd};
 ghost use Rattle.mq_reach.specs.Faults.{IsScriptFault};
 ghost use Rattle.mq_acl_answers.specs.Answers.{AreRows};
 ghost use Rattle.mq_acl_answers.specs.Failures.{IsListFailure, IsScriptFailure};
-ghost use Rattle.mq_acl_answers.specs.Script.{FindsVain, AreTold};
+ghost use Rattle.mq_acl_answers.specs.Script.{FindsUnreached, AreShown};
 ghost use Rattle.mq_acl_answers.specs.Notes.{IsQuiet};
 ghost use Rattle.mq_acl_answers.specs.Statuses.{failure_status};
 
@@ -17,7 +17,7 @@ use crate::printing::print_outcome;
 use mq_acl::{Row, Rules};
 use mq_acl_args::Options;
 use mq_acl_print::{ListText, subscriptions_text};
-use mq_reach::{Findings, ScriptFault, SearchFault, find_vain};
+use mq_reach::{Findings, ScriptFault, SearchFault, find_unreached};
 use std::alloc::Global;
 use std::io::{Read, Write};
 
@@ -82,13 +82,14 @@ pub fn find_subscriptions<'a, R: Read>(
 ) -> Result<Findings, Failure<'a>>
     ensures ok { IfOk result (λ findings. (given : List ℕ)
         × Consumes (R.remaining reader.old) (R.remaining reader.new) given
-        × IsAtEnd (R.remaining reader.new) × FindsVain rules list.entry.text.now given findings) }
+        × IsAtEnd (R.remaining reader.new)
+        × FindsUnreached rules list.entry.text.now given findings) }
     ensures err { IfErr result (λ failure. IsListFailure rules list.entry failure
         ⊎ IsScriptFailure rules list.entry.text.now script.entry.now (R.remaining reader.old)
         (R.remaining reader.new) failure) }
 {
     let rows = rows_in(alloc, rules, list)?;
-    match find_vain(alloc, rules, &rows, reader) {
+    match find_unreached(alloc, rules, &rows, reader) {
         Ok(findings) => unless_no_command(findings, script),
         Err(fault) => Err(script_failure(rules, list, &rows, script, fault)),
     }
@@ -96,10 +97,10 @@ pub fn find_subscriptions<'a, R: Read>(
 
 // Whether there are any.
 fn outcome_of(findings: &Findings) -> Outcome
-    ensures clear { result ≡ Outcome.Clear → findings.now.vain.items ≡ [] }
-    ensures remark { result ≡ Outcome.Remark → findings.now.vain.items ≢ [] }
+    ensures clear { result ≡ Outcome.Clear → findings.now.unreached.items ≡ [] }
+    ensures remark { result ≡ Outcome.Remark → findings.now.unreached.items ≢ [] }
 {
-    if findings.vain.is_empty() {
+    if findings.unreached.is_empty() {
         return Outcome::Clear;
     }
     Outcome::Remark
@@ -107,7 +108,7 @@ fn outcome_of(findings: &Findings) -> Outcome
 
 /// Shows the subscriptions of the script that this reader gives, with this name, that can receive
 /// nothing under the list; and notes by our own rules where mosquitto decides otherwise.
-pub fn tell_subscriptions<'a, R: Read, W: Write>(
+pub fn show_subscriptions<'a, R: Read, W: Write>(
     alloc: Global,
     list: ListText<'a, '_>,
     script: &'a str,
@@ -118,7 +119,7 @@ pub fn tell_subscriptions<'a, R: Read, W: Write>(
 ) -> Result<Outcome, Failure<'a>>
     ensures ok { IfOk result (λ outcome. (given : List ℕ)
         × Consumes (R.remaining reader.old) (R.remaining reader.new) given
-        × IsAtEnd (R.remaining reader.new) × AreTold options.rules list.entry.text.now given outcome) }
+        × IsAtEnd (R.remaining reader.new) × AreShown options.rules list.entry.text.now given outcome) }
     ensures unread { IfErr result (λ failure. failure_status failure ≡ 2 → out.new ≡ out.old) }
     ensures quiet { OnOk result (options.rules ≡ Own
         → IsQuiet options.noted list.entry.text.now → notes.new ≡ notes.old) }

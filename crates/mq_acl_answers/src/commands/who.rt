@@ -13,8 +13,8 @@ ghost use Rattle.mq_acl_answers.specs.Answers.{AreRows};
 ghost use Rattle.mq_acl_answers.specs.Failures.{IsListFailure, IsWhoFailure};
 ghost use Rattle.mq_acl_answers.specs.Notes.{IsQuiet};
 ghost use Rattle.mq_acl_answers.specs.Statuses.{failure_status};
-ghost use Rattle.mq_acl_answers.specs.Who.{ArePermissions, IsWho, TellsWhetherOthers};
-ghost use Rattle.mq_acl_answers.specs.Who.{has_word, is_kept, is_left_out, is_told, is_unshared};
+ghost use Rattle.mq_acl_answers.specs.Who.{ArePermissions, IsWho, SaysWhetherOthers};
+ghost use Rattle.mq_acl_answers.specs.Who.{has_word, is_kept, is_left_out, is_shown, is_unshared};
 ghost use Rattle.mq_acl_answers.specs.Who.{is_wanted, names};
 
 use crate::failure::Failure;
@@ -147,44 +147,44 @@ fn is_kept(only: Option<&str>, class: &Class) -> bool
 }
 
 // Whether it is of a direction that is asked of, and of clients that aren't left out.
-fn is_told(selection: &Selection<'_>, d: &Difference) -> bool
-    ensures { result ≡ is_told selection.now.access (option_copied selection.now.only) d.now }
+fn is_shown(selection: &Selection<'_>, d: &Difference) -> bool
+    ensures { result ≡ is_shown selection.now.access (option_copied selection.now.only) d.now }
 {
     is_wanted(selection.access, d.direction) && is_kept(selection.only, &d.class)
 }
 
-fn has_told(granted: &[Difference], selection: &Selection<'_>) -> bool
+fn has_shown(granted: &[Difference], selection: &Selection<'_>) -> bool
     ensures { result
-        ≡ list_any (is_told selection.now.access (option_copied selection.now.only)) granted.now }
+        ≡ list_any (is_shown selection.now.access (option_copied selection.now.only)) granted.now }
 {
-    granted.iter().any(|d| is_told(selection, d))
+    granted.iter().any(|d| is_shown(selection, d))
 }
 
 // Whether anybody may that isn't left out, where some are.
 fn outcome_of(granted: &[Difference], selection: &Selection<'_>) -> Outcome
     ensures { (rules : Rules) (rows : List Row) (wanted : List ℕ)
         → IsListing rules true rows wanted granted.now
-        → TellsWhetherOthers rules (row_views rows) wanted selection.now.access
+        → SaysWhetherOthers rules (row_views rows) wanted selection.now.access
         (option_copied selection.now.only) result }
 {
     let Some(_) = selection.only else {
         return Outcome::Clear;
     };
-    if has_told(granted, selection) {
+    if has_shown(granted, selection) {
         return Outcome::Remark;
     }
     Outcome::Clear
 }
 
 // What is said of.
-fn told(
+fn shown(
     alloc: Global,
     granted: Vec<Difference>,
     selection: &Selection<'_>,
 ) -> Result<Vec<Difference>, AllocError> {
     granted
         .into_iter()
-        .filter(|d| is_told(selection, d))
+        .filter(|d| is_shown(selection, d))
         .collect(alloc)
 }
 
@@ -205,7 +205,7 @@ fn answer_text(
     };
     let mut permissions = permissions;
     let granted = mem::replace(&mut permissions.granted, Vec::new(alloc));
-    let granted = told(alloc, granted, selection)?;
+    let granted = shown(alloc, granted, selection)?;
     permissions_text(alloc, list, asked, granted, &permissions.refused, json)
 }
 
@@ -225,7 +225,7 @@ fn rows_if<'a>(
 /// Shows who may by the list read or write the topics that the filter matches, if so many steps suffice to know it; and
 /// notes of whom it isn't known, and by our own rules where mosquitto decides otherwise. Where a script is given, its
 /// publishes that each is about at most are counted.
-pub fn tell_who<'a, W: Write>(
+pub fn show_who<'a, W: Write>(
     alloc: Global,
     list: ListText<'a, '_>,
     wanted: &'a str,

@@ -182,7 +182,7 @@ fn outcome_of(explanation: &Explanation, may: Option<Direction>) -> Outcome
 
 /// Shows whether this client may read and write the topic, and why, which is the status where it is
 /// asked of one of them; and notes by our own rules where mosquitto decides otherwise.
-pub fn tell_why<'a, W: Write>(
+pub fn show_why<'a, W: Write>(
     alloc: Global,
     list: ListText<'a, '_>,
     client: Client<'a>,

@@ -122,7 +122,7 @@ without id subscriptions = filter (λ x. not (same_text x.client id)) subscripti
 abbrev pub lasts : ℕ → List Session → Subscription → Bool
 lasts moment sessions s = not (is_among (filter (has_ended moment) sessions) s.client)
 
--- the rows that change; the trees and the index are told apart, by `IsFiled`
+-- the rows that change; the trees and the index are kept apart, by `IsFiled`
 abbrev pub change_state : State → Request → State
 change_state s (Connect id user clean interval) = record s {
   sessions = with_row session_cmp (new_session id user interval) s.sessions;

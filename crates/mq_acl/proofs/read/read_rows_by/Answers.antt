@@ -27,7 +27,7 @@ overflow_add-number c =
 pub returns-in_err-user : goal.returns-in_err-user
 returns-in_err-user c =
     let fault = c.in_err-user.field-0.0 in
-    let told : (fault ≡ out_of_memory) ⊎ (rows_by c.args.rules c.args.text.now ≡ Err fault) =
+    let shown : (fault ≡ out_of_memory) ⊎ (rows_by c.args.rules c.args.text.now ≡ Err fault) =
     ⊎_elim inl
     (λ f. inr (read_fault c.args.rules (lines c.args.text.now) (lines_left c.loop-rest.rest)
     (lines_left c.split_line.result.1) c.split_line.result.0.now c.loop-rest.number

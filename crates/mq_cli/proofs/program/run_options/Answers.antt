@@ -51,7 +51,7 @@ returns-in-Some-clause-err g c = λ _ none.
 
 pub returns-in-Some-clause-unreadable : goal.returns-in-Some-clause-unreadable
 returns-in-Some-clause-unreadable g c =
-    IfErr-map c.run_file.result _ _ (λ failure told two. elim told [
+    IfErr-map c.run_file.result _ _ (λ failure shown two. elim shown [
       | inl unopened ↦ (refl, unopened.1)
       | inr three ↦ absurd (let bad : 2 ≡ 3 = sym two ∙ three in cc)
     ]) c.run_file.ensures.err

@@ -4,10 +4,10 @@ use Rattle.mq_world.specs.World.{World}
 use Rattle.mq_cli.specs.CommandLine.{faults_in, given, rules_given}
 use Rattle.mq_cli.specs.Program.{script_file, limits_given, IsScript}
 use Rattle.mq_cli.specs.Program.{WritesFront}
-use Rattle.mq_cli.proofs.ProgramLemmas.{memory_only, none_from_map, told_two, told_three}
-use Rattle.mq_cli.proofs.ProgramLemmas.{told_unreadable, usage_memory, usage_done, begins_empty}
+use Rattle.mq_cli.proofs.ProgramLemmas.{memory_only, none_from_map, shown_two, shown_three}
+use Rattle.mq_cli.proofs.ProgramLemmas.{shown_unreadable, usage_memory, usage_done, begins_empty}
 use Rattle.mq_cli.proofs.ProgramLemmas.{begins_given}
-use Rattle.mq_cli.proofs.ProgramLemmas.{script_told, BeginsIn-some, WritesFront-none, prefix_given}
+use Rattle.mq_cli.proofs.ProgramLemmas.{script_shown, BeginsIn-some, WritesFront-none, prefix_given}
 use Rattle.mq_cli.proofs.program.start.Goals as goal
 
 -- ## The words are not understood, or there was no memory
@@ -17,14 +17,14 @@ returns-in-Err-clause-with_files g c = λ before understood taken not_unread not
     let memory = memory_only (faults_in (map string_bytes c.args.words.now)) c.in-Err.fault
     understood c.in-Err.ensures.err in
     absurd (not_failed (usage_memory c.in-Err.fault c.report_usage.result _ _ _
-    c.report_usage.ensures.tells memory).0)
+    c.report_usage.ensures.shows memory).0)
 
 pub returns-in-Err-clause-answered : goal.returns-in-Err-clause-answered
 returns-in-Err-clause-answered g c = λ script before understood acl file to_come taken not_failed.
     let memory = memory_only (faults_in (map string_bytes c.args.words.now)) c.in-Err.fault
     understood c.in-Err.ensures.err in
     absurd (not_failed (usage_memory c.in-Err.fault c.report_usage.result _ _ _
-    c.report_usage.ensures.tells memory).0)
+    c.report_usage.ensures.shows memory).0)
 
 pub returns-in-Err-clause-prefix : goal.returns-in-Err-clause-prefix
 returns-in-Err-clause-prefix g c = λ understood.
@@ -32,7 +32,7 @@ returns-in-Err-clause-prefix g c = λ understood.
     let memory = memory_only (faults_in words) c.in-Err.fault understood c.in-Err.ensures.err
     in
     let untouched =
-    (usage_memory c.in-Err.fault c.report_usage.result _ _ _ c.report_usage.ensures.tells
+    (usage_memory c.in-Err.fault c.report_usage.result _ _ _ c.report_usage.ensures.shows
     memory).1 in
     let begun = BeginsIn-some (rules_given words) (given (codes "acl-file") words)
     (limits_given words) in (
@@ -45,17 +45,17 @@ returns-in-Err-clause-prefix g c = λ understood.
 
 pub returns-in-Err-clause-usage : goal.returns-in-Err-clause-usage
 returns-in-Err-clause-usage g c =
-    λ faulty. (refl, (c.in-Err.fault, c.in-Err.ensures.err, c.report_usage.ensures.tells))
+    λ faulty. (refl, (c.in-Err.fault, c.in-Err.ensures.err, c.report_usage.ensures.shows))
 
 pub returns-in-Err-clause-flushed : goal.returns-in-Err-clause-flushed
 returns-in-Err-clause-flushed g c = λ not_unread not_failed.
-    (usage_done c.in-Err.fault c.report_usage.result _ _ _ c.report_usage.ensures.tells not_unread
+    (usage_done c.in-Err.fault c.report_usage.result _ _ _ c.report_usage.ensures.shows not_unread
     not_failed).1
 
 pub returns-in-Err-clause-quiet : goal.returns-in-Err-clause-quiet
 returns-in-Err-clause-quiet g c = λ not_unread not_failed.
     c.report_usage.ensures.quiet
-    (usage_done c.in-Err.fault c.report_usage.result _ _ _ c.report_usage.ensures.tells
+    (usage_done c.in-Err.fault c.report_usage.result _ _ _ c.report_usage.ensures.shows
     not_unread not_failed).0
 
 -- ## The script is answered
@@ -85,7 +85,7 @@ returns-in-Ok-run_options-clause-answered g c =
     let words = map string_bytes c.args.words.now in
     let limited = begins_empty (rules_given words) _ (limits_given words) done.0 acl
     (begins_given words c.in-Ok.options done.0 c.in-Ok.ensures.ok done.1) in
-    let same = script_told _ _ done.2 script (ap script_file c.in-Ok.ensures.ok.script ∙ file)
+    let same = script_shown _ _ done.2 script (ap script_file c.in-Ok.ensures.ok.script ∙ file)
     to_come done.3 in
     rw (sym limited, sym same) (record {
       written = done.4.written;
@@ -102,7 +102,8 @@ returns-in-Ok-run_options-clause-prefix g c = λ understood.
 
 pub returns-clause-with_files : goal.returns-clause-with_files
 returns-clause-with_files g c = λ before understood taken not_unread not_failed.
-    absurd (told_two c.in-Err-run_options.failure c.report.result c.report.ensures.status not_unread
+    absurd (shown_two c.in-Err-run_options.failure c.report.result c.report.ensures.status
+    not_unread
     not_failed)
 
 pub returns-clause-answered : goal.returns-clause-answered
@@ -110,7 +111,7 @@ returns-clause-answered g c = λ script before understood acl file to_come taken
     let no_acl = none_from_map string_bytes c.in-Ok.options.acl_file _ c.in-Ok.ensures.ok.acl_file
     acl in
     let no_file = ap script_file c.in-Ok.ensures.ok.script ∙ file in
-    absurd (not_failed (told_three c.in-Err-run_options.failure c.report.result
+    absurd (not_failed (shown_three c.in-Err-run_options.failure c.report.result
     c.report.ensures.status (c.in-Err-run_options.ensures.err no_acl no_file)))
 
 pub returns-clause-prefix : goal.returns-clause-prefix
@@ -121,16 +122,18 @@ returns-clause-prefix g c = λ understood.
 pub returns-clause-unreadable : goal.returns-clause-unreadable
 returns-clause-unreadable g c = λ two.
     c.in-Err-run_options.ensures.unreadable
-    (told_unreadable c.in-Err-run_options.failure c.report.result c.report.ensures.status two)
+    (shown_unreadable c.in-Err-run_options.failure c.report.result c.report.ensures.status two)
 
 pub returns-clause-flushed : goal.returns-clause-flushed
 returns-clause-flushed g c = λ not_unread not_failed.
-    absurd (told_two c.in-Err-run_options.failure c.report.result c.report.ensures.status not_unread
+    absurd (shown_two c.in-Err-run_options.failure c.report.result c.report.ensures.status
+    not_unread
     not_failed)
 
 pub returns-clause-quiet : goal.returns-clause-quiet
 returns-clause-quiet g c = λ not_unread not_failed.
-    absurd (told_two c.in-Err-run_options.failure c.report.result c.report.ensures.status not_unread
+    absurd (shown_two c.in-Err-run_options.failure c.report.result c.report.ensures.status
+    not_unread
     not_failed)
 
 -- ## What every end says

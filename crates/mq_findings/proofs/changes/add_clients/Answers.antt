@@ -1,5 +1,5 @@
 use Rattle.mq_acl.specs.declared.access.Direction.TheVariants.{Reading}
-use Rattle.mq_findings.proofs.ChangeLemmas.{rows_for, tells_directions, tells_kept}
+use Rattle.mq_findings.proofs.ChangeLemmas.{rows_for, shows_directions, shows_kept}
 use Rattle.mq_findings.proofs.changes.add_clients.Goals as goal
 
 pub add_direction-requires-clause-rows : goal.add_direction-requires-clause-rows
@@ -20,10 +20,10 @@ add_direction-requires-2-clause-rows c = record {
       c.args.clients c.in_ok-new.new.items c.requires.lists.new_rows c.in_ok-new.ensures;
 }
 
-pub returns-clause-told : goal.returns-clause-told
-returns-clause-told c =
-    tells_directions c.args.lists.now c.args.clients c.add_direction-2.new.report.differences.items
-    (λ way. tells_kept c.args.lists.now c.args.clients way Reading
+pub returns-clause-shown : goal.returns-clause-shown
+returns-clause-shown c =
+    shows_directions c.args.lists.now c.args.clients c.add_direction-2.new.report.differences.items
+    (λ way. shows_kept c.args.lists.now c.args.clients way Reading
     c.add_direction.new.report.differences.items c.add_direction-2.new.report.differences.items
-    c.in_ok-add_direction-2.ensures.grows (c.in_ok-add_direction.ensures.told way))
-    c.in_ok-add_direction-2.ensures.told
+    c.in_ok-add_direction-2.ensures.grows (c.in_ok-add_direction.ensures.shown way))
+    c.in_ok-add_direction-2.ensures.shown

@@ -1,7 +1,7 @@
 use Rattle.std.proofs.Common.{◌∙◌}
 use Rattle.mq_findings.specs.Questions.{judging}
 use Rattle.mq_findings.specs.declared.way.Way.TheVariants.{Gained}
-use Rattle.mq_findings.proofs.ChangeLemmas.{judges_of, tells_kept, tells_ways}
+use Rattle.mq_findings.proofs.ChangeLemmas.{judges_of, shows_kept, shows_ways}
 use Rattle.mq_findings.proofs.changes.add_direction.Goals as goal
 
 pub add_gains-requires : goal.add_gains-requires
@@ -42,11 +42,11 @@ add_gains-requires-2 c =
           (c.deref.ensures.value i))) c.in_ok-old.ensures.denies;
     }
 
-pub returns-clause-told : goal.returns-clause-told
-returns-clause-told c =
-    tells_ways c.args.lists.now c.args.rows.now.clients c.args.direction
+pub returns-clause-shown : goal.returns-clause-shown
+returns-clause-shown c =
+    shows_ways c.args.lists.now c.args.rows.now.clients c.args.direction
     c.add_gains-2.new.report.differences.items
-    (tells_kept c.args.lists.now c.args.rows.now.clients Gained c.args.direction
+    (shows_kept c.args.lists.now c.args.rows.now.clients Gained c.args.direction
     c.add_gains.new.report.differences.items c.add_gains-2.new.report.differences.items
-    c.in_ok-add_gains-2.ensures.grows c.in_ok-add_gains.ensures.told)
-    c.in_ok-add_gains-2.ensures.told
+    c.in_ok-add_gains-2.ensures.grows c.in_ok-add_gains.ensures.shown)
+    c.in_ok-add_gains-2.ensures.shown

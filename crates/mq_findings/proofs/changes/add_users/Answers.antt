@@ -1,6 +1,6 @@
 use Rattle.std.proofs.Common.{ℕ, List, [], Bor, ap, ◌∙◌, get_or}
 use Rattle.mq_witness.specs.Literals.{is_among}
-use Rattle.mq_findings.proofs.ChangeLemmas.{name_listed, same_name, tells_user, users_all, users_one}
+use Rattle.mq_findings.proofs.ChangeLemmas.{name_listed, same_name, shows_user, users_all, users_one}
 use Rattle.mq_findings.proofs.changes.add_users.Goals as goal
 
 abbrev none : Bor (List ℕ)
@@ -23,12 +23,12 @@ loop-user-preserved c =
     c.add_clients.new.report.differences.items c.loop-user-test.true
     (same_name items c.loop-user.user-index none name c.loop-user-test.true)
     c.in_ok-add_clients.ensures.grows
-    (tells_user c.args.lists.now name c.add_clients.new.report.differences.items
-    c.requires.asked c.in_ok-add_clients.ensures.told)
+    (shows_user c.args.lists.now name c.add_clients.new.report.differences.items
+    c.requires.asked c.in_ok-add_clients.ensures.shown)
     c.loop-user.invariant
 
-pub returns-clause-told : goal.returns-clause-told
-returns-clause-told c =
+pub returns-clause-shown : goal.returns-clause-shown
+returns-clause-shown c =
     users_all c.args.lists.now c.deref-user-items.result.now c.loop-user.user-index
     c.args.report.now.differences.items c.loop-user.report.differences.items
     c.loop-user-test.false

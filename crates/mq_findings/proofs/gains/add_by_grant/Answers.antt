@@ -11,10 +11,10 @@ loop-place-preserved c =
     place c.args.report.now.differences.items c.loop-place.report.differences.items
     c.add_denied.new.report.differences.items c.loop-place-test.true
     (get_number places c.loop-place.place-index 0 place c.loop-place-test.true)
-    c.in_ok-add_denied.ensures.grows c.in_ok-add_denied.ensures.told c.loop-place.invariant
+    c.in_ok-add_denied.ensures.grows c.in_ok-add_denied.ensures.shown c.loop-place.invariant
 
-pub returns-clause-told : goal.returns-clause-told
-returns-clause-told c =
+pub returns-clause-shown : goal.returns-clause-shown
+returns-clause-shown c =
     done_all c.args.question.now c.args.before.now c.args.grant.now c.deref-place-items.result.now
     c.loop-place.place-index c.args.report.now.differences.items
     c.loop-place.report.differences.items c.loop-place-test.false

@@ -7,8 +7,8 @@ use Rattle.mq_findings.proofs.EveryLemmas.{kept_denied, passes_over}
 use Rattle.mq_findings.proofs.MarkLemmas.{get_same, split_at}
 use Rattle.mq_findings.proofs.gains.add_denied.Goals as goal
 
-pub returns-then-decides_elsewhere-clause-told : goal.returns-then-decides_elsewhere-clause-told
-returns-then-decides_elsewhere-clause-told c = λ d low deny.
+pub returns-then-decides_elsewhere-clause-shown : goal.returns-then-decides_elsewhere-clause-shown
+returns-then-decides_elsewhere-clause-shown c = λ d low deny.
     let rows = c.args.question.now.from.now.rows.items in
     let grant = c.args.grant.now in
     let is : c.in-Some.deny.now ≡ get_or c.deref.result.now c.args.place c.in-Some.deny.now =

@@ -1,9 +1,9 @@
 use Rattle.std.proofs.Common.{◌≡◌, ◌<◌, ◌≤◌, length, take, get_or, ap, sym, ◌∙◌, subst, arith, List}
 use Rattle.mq_acl.specs.Views.{row_views}
 use Rattle.mq_findings.specs.Marks.{IsKept}
-use Rattle.mq_findings.specs.Questions.{AreToldBy, IsSplit, rows_without}
+use Rattle.mq_findings.specs.Questions.{AreShownBy, IsSplit, rows_without}
 use Rattle.mq_findings.specs.declared.marks.Marked.{Marked}
-use Rattle.mq_findings.proofs.EveryLemmas.{tells_all}
+use Rattle.mq_findings.proofs.EveryLemmas.{shows_all}
 use Rattle.mq_findings.proofs.MarkLemmas.{split_at}
 use Rattle.mq_findings.proofs.ReportLemmas.{AreDoneTo, are_done_none, are_done_one}
 use Rattle.mq_findings.proofs.gains.add_gains.Goals as goal
@@ -28,9 +28,9 @@ add_by_grant-requires-clause-placed c =
 
 pub loop-place-init : goal.loop-place-init
 loop-place-init c =
-    let told = c.args.report.now.differences.items in
-    subst (AreDoneTo c.args.question.now 0 told) (λ i. (sym c.begin.ensures.same i).items)
-    (are_done_none c.args.question.now told)
+    let shown = c.args.report.now.differences.items in
+    subst (AreDoneTo c.args.question.now 0 shown) (λ i. (sym c.begin.ensures.same i).items)
+    (are_done_none c.args.question.now shown)
 
 pub loop-place-preserved : goal.loop-place-preserved
 loop-place-preserved c =
@@ -41,15 +41,15 @@ loop-place-preserved c =
     (subst (λ (ms : List Marked). c.loop-place.place < length ms) value c.loop-place-test.true)
     (c.index-rows-place.is ∙ ap (λ (ms : List Marked). get_or ms c.loop-place.place m) value)
     c.in_ok-add_by_grant.ensures.grows
-    (λ grants. subst (λ (ms : List Marked). AreToldBy c.args.question.now
+    (λ grants. subst (λ (ms : List Marked). AreShownBy c.args.question.now
     (take c.loop-place.place ms) m c.add_by_grant.new.report.differences.items) value
-    c.in_ok-add_by_grant.ensures.told)
+    c.in_ok-add_by_grant.ensures.shown)
     c.loop-place.invariant
 
-pub returns-clause-told : goal.returns-clause-told
-returns-clause-told c =
+pub returns-clause-shown : goal.returns-clause-shown
+returns-clause-shown c =
     let end : length c.args.question.now.to.now.rows.items ≤ c.loop-place.place =
     subst (λ (ms : List Marked). length ms ≤ c.loop-place.place) c.as_slice-rows.ensures.value
     (omega arith) in
-    tells_all c.args.question.now c.loop-place.report.differences.items c.requires
+    shows_all c.args.question.now c.loop-place.report.differences.items c.requires
     (λ place d low. c.loop-place.invariant.granted place d (omega arith) low)

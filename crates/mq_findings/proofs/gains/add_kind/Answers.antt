@@ -1,7 +1,7 @@
 use Rattle.std.proofs.Common.{All, Contains, sym, subst}
 use Rattle.mq_findings.specs.Questions.{asked_in, rules_in}
 use Rattle.mq_findings.proofs.ContainLemmas.{gain_asks}
-use Rattle.mq_findings.proofs.ReportLemmas.{added_grows, added_told}
+use Rattle.mq_findings.proofs.ReportLemmas.{added_grows, added_shown}
 use Rattle.mq_findings.proofs.gains.add_kind.Goals as goal
 
 pub find_kind-requires-clause-must : goal.find_kind-requires-clause-must
@@ -21,10 +21,10 @@ returns-clause-grows c =
     c.args.report.now.differences.items c.add.new.self.differences.items c.in_ok-add.ensures
     c.in_ok-difference.ensures.sound
 
-pub returns-clause-told : goal.returns-clause-told
-returns-clause-told c = λ client topic user p kind e.
-    added_told (rules_in c.args.question.now) c.args.question.now.lists.now.old.now
+pub returns-clause-shown : goal.returns-clause-shown
+returns-clause-shown c = λ client topic user p kind e.
+    added_shown (rules_in c.args.question.now) c.args.question.now.lists.now.old.now
     c.args.question.now.lists.now.new.now c.args.question.now.way c.args.question.now.direction
     client user topic c.in_ok-difference.difference c.args.report.now.differences.items
     c.add.new.self.differences.items c.in_ok-add.ensures
-    (c.in_ok-difference.ensures.told client topic user p kind e)
+    (c.in_ok-difference.ensures.shown client topic user p kind e)

@@ -3,7 +3,7 @@ use Rattle.mq_witness.specs.Asked.{is_made_up}
 use Rattle.mq_findings.specs.Differences.{is_of}
 use Rattle.mq_findings.specs.declared.difference.Difference.{Difference}
 use Rattle.mq_findings.specs.declared.reason.Reason.{Reason}
-use Rattle.mq_findings.proofs.ToldLemmas.{IsOf, sound_of, told_at}
+use Rattle.mq_findings.proofs.ShownLemmas.{IsOf, sound_of, shown_at}
 use Rattle.mq_findings.proofs.gains.difference_of.Goals as goal
 
 abbrev difference : goal.After-result-2-1 → Difference
@@ -35,12 +35,12 @@ returns-clause-sound c =
     sound_of c.args.question.now c.args.gain.now c.args.witness (difference c)
     c.requires.question c.requires.gain c.requires.shows c.requires.stands
     c.requires.known (is_of_witness c)
-    (λ text. c.in_ok-made_up.ensures.told text
+    (λ text. c.in_ok-made_up.ensures.shown text
     ∙ (λ i. is_of text (c.deref.ensures i) (c.user.ensures i) c.args.witness.name
     && is_made_up text c.args.question.now.lists.now.asked))
     c.in_ok-made_up.ensures.unnamed
 
-pub returns-clause-told : goal.returns-clause-told
-returns-clause-told c =
-    told_at c.args.dollar c.args.question.now c.args.gain.now c.args.witness (difference c)
+pub returns-clause-shown : goal.returns-clause-shown
+returns-clause-shown c =
+    shown_at c.args.dollar c.args.question.now c.args.gain.now c.args.witness (difference c)
     c.requires.question c.requires.gain c.requires.shows c.requires.kind (is_of_witness c)

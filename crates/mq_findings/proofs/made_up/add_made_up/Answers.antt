@@ -5,18 +5,18 @@ use Rattle.mq_findings.specs.Differences.{IsUnnamed, has_text}
 use Rattle.mq_findings.proofs.MadeUpLemmas.{text_added, text_not, text_there}
 use Rattle.mq_findings.proofs.made_up.add_made_up.Goals as goal
 
-pub returns-then-not-is_made_up-clause-told : goal.returns-then-not-is_made_up-clause-told
-returns-then-not-is_made_up-clause-told c = λ other. text_not c.args.made_up.now.items c.args.text.now other
+pub returns-then-not-is_made_up-clause-shown : goal.returns-then-not-is_made_up-clause-shown
+returns-then-not-is_made_up-clause-shown c = λ other. text_not c.args.made_up.now.items c.args.text.now other
     c.args.asked.now (sym c.if-not-is_made_up.ensures.made_up)
 
-pub returns-then-has_text-clause-told : goal.returns-then-has_text-clause-told
-returns-then-has_text-clause-told c = λ other. text_there c.args.made_up.now.items c.args.text.now other
+pub returns-then-has_text-clause-shown : goal.returns-then-has_text-clause-shown
+returns-then-has_text-clause-shown c = λ other. text_there c.args.made_up.now.items c.args.text.now other
     c.args.asked.now
     (ap (λ (texts : List (String Global)). has_text texts c.args.text.now)
     (sym c.deref.ensures.value) ∙ sym c.if-has_text.ensures)
 
-pub returns-clause-told : goal.returns-clause-told
-returns-clause-told c = λ other.
+pub returns-clause-shown : goal.returns-clause-shown
+returns-clause-shown c = λ other.
     ap (λ (texts : List (String Global)). has_text texts other) c.in_ok-push.ensures.items
     ∙ text_added c.args.made_up.now.items c.in_ok-from_str.field-0 c.args.text.now other
     c.args.asked.now c.in_ok-from_str.ensures.ok (sym c.if-not-is_made_up.ensures.made_up)

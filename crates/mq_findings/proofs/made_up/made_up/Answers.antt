@@ -10,21 +10,21 @@ use Rattle.std.proofs.lemmas.List.Elements.{All-nil}
 use Rattle.mq_topic.specs.Levels.{levels}
 use Rattle.mq_witness.specs.Asked.{is_made_up}
 use Rattle.mq_findings.specs.Differences.{IsUnnamed, has_text}
-use Rattle.mq_findings.proofs.MadeUpLemmas.{is_told, told_first, told_more}
+use Rattle.mq_findings.proofs.MadeUpLemmas.{is_shown, shown_first, shown_more}
 use Rattle.mq_findings.proofs.made_up.made_up.Goals as goal
 
 pub loop-level-init : goal.loop-level-init
 loop-level-init c = record {
   can_next = tt;
   is_finite = tt;
-  told = λ text.
+  shown = λ text.
       let made = is_made_up text c.args.asked.now in
-      c.in_ok-add_made_up-2.ensures.told text
+      c.in_ok-add_made_up-2.ensures.shown text
       ∙ ap (λ b. b || (bytes_eq text c.unwrap_or.result.now && made))
-      (c.in_ok-add_made_up.ensures.told text
+      (c.in_ok-add_made_up.ensures.shown text
       ∙ ap (λ (texts : List (String Global)). has_text texts text
       || (bytes_eq text c.args.client.now && made)) c.new-all.ensures.items)
-      ∙ told_first text c.args.client.now c.args.user c.unwrap_or.result c.args.client made
+      ∙ shown_first text c.args.client.now c.args.user c.unwrap_or.result c.args.client made
       c.unwrap_or.ensures refl;
   unnamed = c.in_ok-add_made_up-2.ensures.unnamed (c.in_ok-add_made_up.ensures.unnamed
       (subst (All (IsUnnamed c.args.asked.now)) (sym c.new-all.ensures.items)
@@ -45,14 +45,14 @@ loop-level-preserved c =
     record {
       can_next = tt;
       is_finite = tt;
-      told = λ text.
+      shown = λ text.
           let made = is_made_up text c.args.asked.now in
-          c.in_ok-add_made_up-3.ensures.told text
+          c.in_ok-add_made_up-3.ensures.shown text
           ∙ ap (λ b. b || (bytes_eq text c.in-Some.level.now && made))
-          (c.loop-level.invariant.told text)
-          ∙ told_more text c.args.client.now c.in-Some.level.now (option_copied c.args.user)
+          (c.loop-level.invariant.shown text)
+          ∙ shown_more text c.args.client.now c.in-Some.level.now (option_copied c.args.user)
           (levels name) n made turn.0 turn.1
-          ∙ ap (λ k. is_told text c.args.client.now (option_copied c.args.user)
+          ∙ ap (λ k. is_shown text c.args.client.now (option_copied c.args.user)
           (take k (levels name)) && made) (sym (length_push c.loop-level.yielded c.in-Some.level));
       unnamed = c.in_ok-add_made_up-3.ensures.unnamed c.loop-level.invariant.unnamed;
     }
@@ -60,8 +60,8 @@ loop-level-preserved c =
 pub returns-clause-unnamed : goal.returns-clause-unnamed
 returns-clause-unnamed c = c.loop-level.invariant.unnamed
 
-pub returns-clause-told : goal.returns-clause-told
-returns-clause-told c = λ text.
+pub returns-clause-shown : goal.returns-clause-shown
+returns-clause-shown c = λ text.
     let name = c.args.topic.now in
     let same = c.into_iter-level-iterator.ensures.into_iter_gives in
     let end = YieldsList-end
@@ -70,7 +70,7 @@ returns-clause-told c = λ text.
     (ap split_has_more same ∙ c.split-level-items.ensures.has_more)
     (ap split_pattern same ∙ c.split-level-items.ensures.pattern)) c.loop-level.yielded _
     c.loop-level.yielded_by _ _ c.in-None.is c.next.ensures.steps in
-    c.loop-level.invariant.told text
-    ∙ ap (λ ls. is_told text c.args.client.now (option_copied c.args.user) ls
+    c.loop-level.invariant.shown text
+    ∙ ap (λ ls. is_shown text c.args.client.now (option_copied c.args.user) ls
     && is_made_up text c.args.asked.now)
     (take_all (length c.loop-level.yielded) (levels name) (omega (arith, end.1)))

@@ -3,7 +3,7 @@ use Rattle.std.specs.Option.{option_copied}
 use Rattle.mq_topic.specs.Levels.{levels}
 use Rattle.mq_witness.specs.Asked.{is_made_up}
 use Rattle.mq_findings.specs.Differences.{IsUnnamed, has_text}
-use Rattle.mq_findings.proofs.MadeUpLemmas.{is_told}
+use Rattle.mq_findings.proofs.MadeUpLemmas.{is_shown}
 use Rattle.mq_findings.proofs.made_up.made_up.Given as goal
 
 -- those of the client id, the user name and the first levels
@@ -11,8 +11,8 @@ abbrev pub invariant-loop-level : goal.invariant-loop-level
 invariant-loop-level l = record {
   can_next : (goal.iterator-loop-level).can_next l.level-iterator;
   is_finite : (goal.iterator-loop-level).is_finite l.level-iterator;
-  told : (text : List ℕ) → has_text l.all.items text
-      ≡ (is_told text l.client (option_copied l.fn.user) (take (length l.yielded) (levels l.topic))
+  shown : (text : List ℕ) → has_text l.all.items text
+      ≡ (is_shown text l.client (option_copied l.fn.user) (take (length l.yielded) (levels l.topic))
       && is_made_up text l.asked);
   unnamed : All (IsUnnamed l.asked) l.all.items;
 }

@@ -7,7 +7,7 @@ use Rattle.std.proofs.lemmas.List.Splits.{length-slice_split}
 use Rattle.std.proofs.lemmas.List.Sums.{count_by-le-length}
 use Rattle.std.specs.Str.Iter.{split_text, split_has_more, split_pattern}
 use Rattle.mq_acl.specs.Lines.{lines}
-use Rattle.mq_lint.specs.Remarks.{remarks_from, remarks_of, line_remarks, faults_told}
+use Rattle.mq_lint.specs.Remarks.{remarks_from, remarks_of, line_remarks, faults_shown}
 use Rattle.mq_lint.proofs.LintLemmas.{line_alone, remarks_step, faults_from}
 use Rattle.mq_lint.proofs.lint.remarks.Goals as goal
 
@@ -64,17 +64,17 @@ loop-line-preserved c =
       is_finite = tt;
       count = (let one_more = length_push c.loop-line.yielded c.in-Some.line in let count =
           c.loop-line.invariant.count in omega arith);
-      told =
+      shown =
           ap (λ l. l ++ rest) c.in_ok-add_line.ensures
           ∙ append_assoc c.loop-line.remarks.items (line_remarks c.args.rules (number + 1) c.in-Some.line.now)
           rest
           ∙ ap (λ l. c.loop-line.remarks.items ++ l)
           (sym (remarks_step c.args.rules (lines text) number c.in-Some.line.now left line))
-          ∙ c.loop-line.invariant.told;
+          ∙ c.loop-line.invariant.shown;
     }
 
-all_told : (c : goal.In-None) → c.loop-line.remarks.items ≡ remarks_of c.args.rules c.args.text.now
-all_told c =
+all_shown : (c : goal.In-None) → c.loop-line.remarks.items ≡ remarks_of c.args.rules c.args.text.now
+all_shown c =
     let text = c.args.text.now in
     let number = c.loop-line.number in
     let same = c.into_iter-line-iterator.ensures.into_iter_gives in
@@ -88,10 +88,10 @@ all_told c =
     sym (append-nil c.loop-line.remarks.items)
     ∙ ap (λ l. c.loop-line.remarks.items ++ l)
     (sym (at_drop_all (remarks_from c.args.rules (number + 1)) (lines text) number none_left))
-    ∙ c.loop-line.invariant.told
+    ∙ c.loop-line.invariant.shown
 
 pub returns-clause-all : goal.returns-clause-all
-returns-clause-all c = all_told c
+returns-clause-all c = all_shown c
 
 pub returns-clause-faults : goal.returns-clause-faults
-returns-clause-faults c = ap faults_told (all_told c) ∙ faults_from c.args.rules 1 (lines c.args.text.now)
+returns-clause-faults c = ap faults_shown (all_shown c) ∙ faults_from c.args.rules 1 (lines c.args.text.now)

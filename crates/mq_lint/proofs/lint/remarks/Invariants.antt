@@ -9,6 +9,6 @@ invariant-loop-line l = record {
   can_next : (goal.iterator-loop-line).can_next l.line-iterator;
   is_finite : (goal.iterator-loop-line).is_finite l.line-iterator;
   count : l.number ≡ length l.yielded;
-  told : l.remarks.items ++ remarks_from l.rules (l.number + 1) (drop l.number (lines l.text))
+  shown : l.remarks.items ++ remarks_from l.rules (l.number + 1) (drop l.number (lines l.text))
       ≡ remarks_of l.rules l.text;
 }

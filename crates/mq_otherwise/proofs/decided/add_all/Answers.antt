@@ -3,10 +3,10 @@ use Rattle.mq_otherwise.proofs.decided.add_all.Goals as goal
 
 pub returns-clause-grows : goal.returns-clause-grows
 returns-clause-grows c =
-    grows_both c.args.list.now.rows.now c.args.report.now.told.items
-    c.add_users.new.report.told.items c.add_clients-2.new.report.told.items
-    (grows_both c.args.list.now.rows.now c.args.report.now.told.items
-    c.add_clients.new.report.told.items c.add_users.new.report.told.items
+    grows_both c.args.list.now.rows.now c.args.report.now.shown.items
+    c.add_users.new.report.shown.items c.add_clients-2.new.report.shown.items
+    (grows_both c.args.list.now.rows.now c.args.report.now.shown.items
+    c.add_clients.new.report.shown.items c.add_users.new.report.shown.items
     c.in_ok-add_clients.ensures.grows c.in_ok-add_users.ensures.grows)
     c.in_ok-add_clients-2.ensures.grows
 

@@ -3,8 +3,8 @@ use Rattle.mq_otherwise.proofs.decided.add_clients.Goals as goal
 
 pub returns-clause-grows : goal.returns-clause-grows
 returns-clause-grows c =
-    grows_both c.args.list.now.rows.now c.args.report.now.told.items
-    c.add_direction.new.report.told.items c.add_direction-2.new.report.told.items
+    grows_both c.args.list.now.rows.now c.args.report.now.shown.items
+    c.add_direction.new.report.shown.items c.add_direction-2.new.report.shown.items
     c.in_ok-add_direction.ensures.grows c.in_ok-add_direction-2.ensures.grows
 
 pub returns-clause-same : goal.returns-clause-same

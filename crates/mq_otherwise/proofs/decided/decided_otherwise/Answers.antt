@@ -21,13 +21,13 @@ pub returns-clause-same : goal.returns-clause-same
 returns-clause-same c = λ none.
     let list = c.in_ok-list.list in
     subst DecideAllSame (list.is_list.is_asked.are ∙ ap row_views c.in_ok-list.ensures.rows)
-    (c.in_ok-add_all.ensures.same (sym (ap Vec.items c.into_told.ensures) ∙ none))
+    (c.in_ok-add_all.ensures.same (sym (ap Vec.items c.into_shown.ensures) ∙ none))
 
 pub returns-clause-real : goal.returns-clause-real
 returns-clause-real c =
-    subst (λ (told : List Otherwise). All (IsReal c.args.rows.now) told)
-    (sym (ap Vec.items c.into_told.ensures))
-    (subst (λ (rows : List Row). All (IsReal rows) c.add_all.new.report.told.items)
+    subst (λ (shown : List Otherwise). All (IsReal c.args.rows.now) shown)
+    (sym (ap Vec.items c.into_shown.ensures))
+    (subst (λ (rows : List Row). All (IsReal rows) c.add_all.new.report.shown.items)
     c.in_ok-list.ensures.rows
     (c.in_ok-add_all.ensures.grows.real
-    (none_real c.in_ok-list.list.rows.now c.new-report.result.told.items c.new-report.ensures)))
+    (none_real c.in_ok-list.list.rows.now c.new-report.result.shown.items c.new-report.ensures)))

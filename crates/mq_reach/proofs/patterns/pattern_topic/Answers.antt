@@ -8,7 +8,7 @@ use Rattle.mq_acl.specs.Rows.{AclRow}
 use Rattle.mq_acl.specs.Views.{row_view, row_views}
 use Rattle.mq_witness.specs.Rows.{lent_rows}
 use Rattle.mq_reach.specs.Filled.{IsFilled}
-use Rattle.mq_reach.proofs.FilledLemmas.{filled-same, limit-told}
+use Rattle.mq_reach.proofs.FilledLemmas.{filled-same, limit-shown}
 use Rattle.mq_reach.proofs.ReachLemmas.{none_then, some_then}
 use Rattle.mq_reach.proofs.patterns.pattern_topic.Goals as goal
 
@@ -31,7 +31,7 @@ returns-in_err-found-clause-fault c = λ listed own denying granting.
     let user = option_copied c.args.client.user in
     let grants_of : List AclRow = row_views c.add_filled.new.all.items in
     let is = c.in_err-found.ensures.fault in
-    rw (fault.1, fault.2) (limit-told c.args.client.id.now user c.args.row.filter listed grants_of
+    rw (fault.1, fault.2) (limit-shown c.args.client.id.now user c.args.row.filter listed grants_of
     (row_view c.args.row) is.0 c.in_err-found.field-0.0 refl
     (c.in_ok-add_filled.ensures.filled (subst (λ l. All (IsFilled user) (row_views l))
     (sym c.new-grants.ensures.items) (All-nil (IsFilled user))))

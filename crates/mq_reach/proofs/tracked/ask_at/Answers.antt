@@ -5,7 +5,7 @@ use Rattle.std.proofs.lemmas.Result.{err_from_is_err_and}
 use Rattle.mq_reach.specs.Tracked.{IsAsked, IsOf, entry_view}
 use Rattle.mq_reach.specs.declared.tracked.Entry.{Entry}
 use Rattle.mq_reach.proofs.WalkLemmas.{at-set, fault-at, left-within, steps-done, steps-itself}
-use Rattle.mq_reach.proofs.WalkLemmas.{steps-more, told-set, walked}
+use Rattle.mq_reach.proofs.WalkLemmas.{steps-more, shown-set, walked}
 use Rattle.mq_reach.proofs.tracked.ask_at.Goals as goal
 
 pub returns-in_err-ask-clause-kept : goal.returns-in_err-ask-clause-kept
@@ -38,7 +38,7 @@ returns-in_err-ask-clause-err c =
     let fault = err_from_is_err_and c.from_residual.result c.from_residual.ensures.1 in
     rw (fault.1, fault.2) (λ client is. fault-at c.args.list.now client
     (option_copied c.args.user) entries
-    c.args.entries.now places i entry _ c.loop-place.invariant.told c.loop-place.invariant.count
+    c.args.entries.now places i entry _ c.loop-place.invariant.shown c.loop-place.invariant.count
     c.loop-place-test.true within is c.in_err-ask.ensures.err)
 
 pub loop-place-preserved : goal.loop-place-preserved
@@ -60,8 +60,8 @@ loop-place-preserved c =
           c.loop-place-test.true
           (at-set IsOf entries (get_or places i 0) c.ask.new.self entry within c.ask.ensures.kept)
           steps);
-      told = told-set entries (get_or places i 0) c.ask.new.self entry within c.ask.ensures.kept
-          ∙ c.loop-place.invariant.told;
+      shown = shown-set entries (get_or places i 0) c.ask.new.self entry within c.ask.ensures.kept
+          ∙ c.loop-place.invariant.shown;
       count = omega (arith, length-set {A = Entry}, c.loop-place.invariant.count);
     }
 

@@ -77,9 +77,9 @@ pub returns-clause-fault : goal.returns-clause-fault
 returns-clause-fault c =
     let is = met (goal.at.returns-clause-fault c).After-deref in
     MatchResult-weaker c.filter_of.result c.filter_of.ensures.fault (λ found t. tt)
-    (λ fault told. fault_by fault (has_long (texts c.deref.result.now))
+    (λ fault said. fault_by fault (has_long (texts c.deref.result.now))
     (has_long (levels c.args.a.now) || has_long (levels c.args.b.now))
-    (met_is_long c.args.a.now c.args.b.now _ is) told)
+    (met_is_long c.args.a.now c.args.b.now _ is) said)
 
 pub returns-clause-long : goal.returns-clause-long
 returns-clause-long c =

@@ -14,8 +14,8 @@ unfolding TakesBytes StopsLast
 returns-in_err-finish-clause-ending g c = λ w s.
     let a = g.W.Sink.taken c.args.writer.now in
     let all = c.in_ok-read_lines.ensures.ok in
-    let told = all.2.taken w [] a s in
-    let last = c.in_err-finish.ensures.ends w all.0 a told in
+    let so_far = all.2.taken w [] a s in
+    let last = c.in_err-finish.ensures.ends w all.0 a so_far in
     let read = c.in_ok-read_lines.ensures.ok_count in
     let finished = c.in_err-finish.ensures.counted in
     let fault = err_from_is_err_and c.from_residual-in_err-finish.result
@@ -31,8 +31,8 @@ unfolding TakesBytes EndsLines
 returns-clause-ending g c = λ w s.
     let a = g.W.Sink.taken c.args.writer.now in
     let all = c.in_ok-read_lines.ensures.ok in
-    let told = all.2.taken w [] a s in
-    let done = c.in_ok-finish.ensures.ends w all.0 a told in
+    let so_far = all.2.taken w [] a s in
+    let done = c.in_ok-finish.ensures.ends w all.0 a so_far in
     let read = c.in_ok-read_lines.ensures.ok_count in
     let finished = c.in_ok-finish.ensures.counted in (
       all.0,

@@ -34,7 +34,7 @@ const NO_MEMORY: [&str; 3] = [
 ];
 
 // An answer in words, and whether a growth was refused. The words are made once none is refused any more.
-fn told<T: Debug + Drop, E: Debug + Drop>(
+fn answered<T: Debug + Drop, E: Debug + Drop>(
     rt: &(impl Abort + AllocGlobal),
     answer: Result<T, E>,
 ) -> (String, bool) {
@@ -49,21 +49,24 @@ impl<'a> Call<'a> {
         let alloc = rt.alloc();
         refuse(alloc, nth);
         match self {
-            Call::ParseName(text) => told(rt, TopicName::parse(alloc, text)),
-            Call::ParseFilter(text) => told(rt, TopicFilter::parse(alloc, text)),
-            Call::ParseSubscription(text) => told(rt, SubFilter::parse(alloc, text)),
-            Call::CloneName(name) => told(rt, TopicName::clone(name)),
-            Call::CloneFilter(filter) => told(rt, TopicFilter::clone(filter)),
-            Call::CloneSubscription(wanted) => told(rt, SubFilter::clone(wanted)),
-            Call::ReadList(text) => told(rt, Acl::read(alloc, text)),
-            Call::ReadListFile(bytes) => told(
+            Call::ParseName(text) => answered(rt, TopicName::parse(alloc, text)),
+            Call::ParseFilter(text) => answered(rt, TopicFilter::parse(alloc, text)),
+            Call::ParseSubscription(text) => answered(rt, SubFilter::parse(alloc, text)),
+            Call::CloneName(name) => answered(rt, TopicName::clone(name)),
+            Call::CloneFilter(filter) => answered(rt, TopicFilter::clone(filter)),
+            Call::CloneSubscription(wanted) => answered(rt, SubFilter::clone(wanted)),
+            Call::ReadList(text) => answered(rt, Acl::read(alloc, text)),
+            Call::ReadListFile(bytes) => answered(
                 rt,
                 read_acl(alloc, Rules::Own, &mut Script::new(bytes, 100)),
             ),
-            Call::ReadLine(line) => told(rt, read_line(alloc, line)),
-            Call::ReadWords(words) => told(rt, arguments(alloc, words)),
-            Call::ForName(tree, name) => told(rt, tree.for_name(name, &mut Steps::new())),
-            Call::ForFilter(tree, wanted) => told(rt, tree.for_filter(wanted, &mut Steps::new())),
+            Call::ReadLine(line) => answered(rt, read_line(alloc, line)),
+            Call::ReadWords(words) => answered(rt, arguments(alloc, words)),
+            Call::ForName(tree, name) => answered(rt, tree.for_name(name, &mut Steps::new())),
+            Call::ForFilter(tree, wanted) => answered(
+                rt,
+                tree.for_filter(wanted, &mut Steps::new()),
+            ),
         }
     }
 }

@@ -8,7 +8,7 @@ use Rattle.std.proofs.lemmas.Iterator.Consumers.{YieldsList-turn, YieldsList-end
 use Rattle.std.proofs.lemmas.List.{length_push, take_all}
 use Rattle.mq_topic.specs.Levels.{levels}
 use Rattle.mq_findings.specs.Differences.{has_text}
-use Rattle.mq_findings.proofs.MadeUpLemmas.{is_told, told_first, told_more}
+use Rattle.mq_findings.proofs.MadeUpLemmas.{is_shown, shown_first, shown_more}
 use Rattle.mq_through.specs.Clients.{is_named}
 use Rattle.mq_through.proofs.made_up.unnamed_texts.Goals as goal
 
@@ -16,14 +16,14 @@ pub loop-level-init : goal.loop-level-init
 loop-level-init c = record {
   can_next = tt;
   is_finite = tt;
-  told = λ text.
+  shown = λ text.
       let made = not (is_named c.args.comparison.now text) in
       c.in_ok-add_unnamed-2.ensures text
       ∙ ap (λ b. b || (bytes_eq text c.unwrap_or.result.now && made))
       (c.in_ok-add_unnamed.ensures text
       ∙ ap (λ (texts : List (String Global)). has_text texts text
       || (bytes_eq text c.args.client.now && made)) c.new-all.ensures.items)
-      ∙ told_first text c.args.client.now c.args.user c.unwrap_or.result c.args.client made
+      ∙ shown_first text c.args.client.now c.args.user c.unwrap_or.result c.args.client made
       c.unwrap_or.ensures refl;
 }
 
@@ -41,14 +41,14 @@ loop-level-preserved c =
     record {
       can_next = tt;
       is_finite = tt;
-      told = λ text.
+      shown = λ text.
           let made = not (is_named c.args.comparison.now text) in
           c.in_ok-add_unnamed-3.ensures text
           ∙ ap (λ b. b || (bytes_eq text c.in-Some.level.now && made))
-          (c.loop-level.invariant.told text)
-          ∙ told_more text c.args.client.now c.in-Some.level.now (option_copied c.args.user)
+          (c.loop-level.invariant.shown text)
+          ∙ shown_more text c.args.client.now c.in-Some.level.now (option_copied c.args.user)
           (levels name) n made turn.0 turn.1
-          ∙ ap (λ k. is_told text c.args.client.now (option_copied c.args.user)
+          ∙ ap (λ k. is_shown text c.args.client.now (option_copied c.args.user)
           (take k (levels name)) && made) (sym (length_push c.loop-level.yielded c.in-Some.level));
     }
 
@@ -62,7 +62,7 @@ returns c = λ text.
     (ap split_has_more same ∙ c.split-level-items.ensures.has_more)
     (ap split_pattern same ∙ c.split-level-items.ensures.pattern)) c.loop-level.yielded _
     c.loop-level.yielded_by _ _ c.in-None.is c.next.ensures.steps in
-    c.loop-level.invariant.told text
-    ∙ ap (λ ls. is_told text c.args.client.now (option_copied c.args.user) ls
+    c.loop-level.invariant.shown text
+    ∙ ap (λ ls. is_shown text c.args.client.now (option_copied c.args.user) ls
     && not (is_named c.args.comparison.now text))
     (take_all (length c.loop-level.yielded) (levels name) (omega (arith, end.1)))

@@ -2,7 +2,7 @@ use Rattle.std.proofs.Common.{◌≡◌, ◌&&◌, ℕ, List, length, not, take}
 use Rattle.std.specs.Option.{option_copied}
 use Rattle.mq_topic.specs.Levels.{levels}
 use Rattle.mq_findings.specs.Differences.{has_text}
-use Rattle.mq_findings.proofs.MadeUpLemmas.{is_told}
+use Rattle.mq_findings.proofs.MadeUpLemmas.{is_shown}
 use Rattle.mq_through.specs.Clients.{is_named}
 use Rattle.mq_through.proofs.made_up.unnamed_texts.Given as goal
 
@@ -11,7 +11,7 @@ abbrev pub invariant-loop-level : goal.invariant-loop-level
 invariant-loop-level l = record {
   can_next : (goal.iterator-loop-level).can_next l.level-iterator;
   is_finite : (goal.iterator-loop-level).is_finite l.level-iterator;
-  told : (text : List ℕ) → has_text l.all.items text
-      ≡ (is_told text l.client (option_copied l.fn.user) (take (length l.yielded) (levels l.topic))
+  shown : (text : List ℕ) → has_text l.all.items text
+      ≡ (is_shown text l.client (option_copied l.fn.user) (take (length l.yielded) (levels l.topic))
       && not (is_named l.comparison text));
 }

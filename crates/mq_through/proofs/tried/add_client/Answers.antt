@@ -4,7 +4,7 @@ use Rattle.std.proofs.lemmas.Iterator.Consumers.{YieldsList-end, YieldsList-turn
 use Rattle.std.proofs.lemmas.Result.{err_from_is_err_and}
 use Rattle.mq_acl.specs.declared.row.Row.{Row}
 use Rattle.mq_acl.specs.declared.rules.Rules.TheVariants.{Own}
-use Rattle.mq_findings.specs.Differences.{TellsAll}
+use Rattle.mq_findings.specs.Differences.{ShowsAll}
 use Rattle.mq_findings.specs.declared.difference.Difference.{Difference}
 use Rattle.mq_through.proofs.AddingLemmas.{IsAdding, adding_all, adding_more, all_seen, are_made}
 use Rattle.mq_through.proofs.AddingLemmas.{real_at}
@@ -78,8 +78,8 @@ loop-difference-preserved c =
     c.in_ok-renamed.ensures.renamed (record { is = c.in_ok-add.ensures })
     c.loop-difference.invariant
 
-pub returns-clause-told : goal.returns-clause-told
-returns-clause-told c =
+pub returns-clause-shown : goal.returns-clause-shown
+returns-clause-shown c =
     let k = c.args.comparison.now in
     let old = c.args.made.now.old.items in
     let new = c.args.made.now.new.items in
@@ -94,8 +94,8 @@ returns-clause-told c =
     new (are_made k c.args.region.now c.args.client.now old new c.requires.comparison
     c.requires.region c.requires.client c.requires.made.old_list c.requires.made.new_list
     c.requires.made.names) c.args.found.now.items c.loop-difference.found.items all
-    (subst (λ (rows : List Row). TellsAll Own rows new all) c.deref.ensures.value
-    (subst (λ (rows : List Row). TellsAll Own c.deref.result.now rows all) c.deref-2.ensures.value
+    (subst (λ (rows : List Row). ShowsAll Own rows new all) c.deref.ensures.value
+    (subst (λ (rows : List Row). ShowsAll Own c.deref.result.now rows all) c.deref-2.ensures.value
     c.in_ok-difference-items.ensures.every))
     (subst (λ (seen : List Difference). IsAdding k.plan.now k.old.now k.new.now c.args.region.now
     c.args.client.now old new c.args.found.now.items c.loop-difference.found.items seen)

@@ -1,7 +1,7 @@
 use Rattle.std.proofs.Common.{◌∙◌, subst, sym, inr}
 use Rattle.std.proofs.lemmas.Result.{IfErr-weaker, IfOk-from_err, IfOk-weaker}
 use Rattle.mq_reach.specs.Faults.{IsScriptFault}
-use Rattle.mq_acl_answers.specs.Script.{FindsVain}
+use Rattle.mq_acl_answers.specs.Script.{FindsUnreached}
 use Rattle.mq_acl_answers.proofs.ScriptLemmas.{finds, no_command}
 use Rattle.mq_acl_answers.proofs.commands.script.find_subscriptions.Goals as goal
 
@@ -16,7 +16,7 @@ returns-in-Ok-clause-ok g c =
       found.0,
       found.1,
       found.2,
-      subst (FindsVain c.args.rules text found.0) (sym is.0)
+      subst (FindsUnreached c.args.rules text found.0) (sym is.0)
           (finds c.args.rules text found.0 c.in_ok-rows.rows.items c.in-Ok.findings c.in_ok-rows.ensures.ok
           found.3 is.1),
     )) c.unless_no_command.ensures.ok
@@ -35,7 +35,7 @@ returns-clause-ok g c = tt
 pub returns-clause-err : goal.returns-clause-err
 returns-clause-err g c =
     let before = g.R.Read.remaining c.args.reader.now in
-    let after = g.R.Read.remaining c.find_vain.new.reader in
+    let after = g.R.Read.remaining c.find_unreached.new.reader in
     c.script_failure.ensures before after
     (subst (λ rows. IsScriptFault c.args.rules rows before after c.in-Err.fault)
     (c.deref.ensures.value ∙ sym c.deref-in-Err.ensures.value) c.in-Err.ensures.err)

@@ -9,32 +9,32 @@ use Rattle.mq_findings.proofs.report.Report.last_with.Goals as goal
 
 pub returns-in_default : goal.returns-in_default
 returns-in_default c =
-    let told = c.args.self.now.differences.items in
+    let shown = c.args.self.now.differences.items in
     let end : length c.deref.result.now ≤ c.args.self.now.last = grind (arith, common_steps, gets) in
-    last_begun told c.args.self.now.last c.args.difference.now c.args.self.now.is_last
+    last_begun shown c.args.self.now.last c.args.difference.now c.args.self.now.is_last
     (subst (λ (ds : List Difference). length ds ≤ c.args.self.now.last) c.deref.ensures.value end)
 
 pub returns-in-Greater : goal.returns-in-Greater
 returns-in-Greater c =
-    let told = c.args.self.now.differences.items in
+    let shown = c.args.self.now.differences.items in
     let is : c.in-Some.last.now ≡ get_or c.deref.result.now c.args.self.now.last c.in-Some.last.now =
     grind (arith, common_steps, gets) in
-    let n : length told ≡ c.len.result =
+    let n : length shown ≡ c.len.result =
     ap (λ (ds : List Difference). length ds) (sym c.deref.ensures.value) ∙ omega arith in
-    subst (IsLast (told ++ c.args.difference.now ∷ [])) n
-    (last_moved told c.args.self.now.last c.in-Some.last.now c.args.difference.now
+    subst (IsLast (shown ++ c.args.difference.now ∷ [])) n
+    (last_moved shown c.args.self.now.last c.in-Some.last.now c.args.difference.now
     c.args.self.now.is_last
     (is ∙ ap (λ (ds : List Difference). get_or ds c.args.self.now.last c.in-Some.last.now)
     c.deref.ensures.value) (sym c.in-Greater.ensures))
 
 pub returns-in_default-order : goal.returns-in_default-order
 returns-in_default-order c =
-    let told = c.args.self.now.differences.items in
+    let shown = c.args.self.now.differences.items in
     let is : c.in-Some.last.now ≡ get_or c.deref.result.now c.args.self.now.last c.in-Some.last.now =
     grind (arith, common_steps, gets) in
     let low : c.args.self.now.last < length c.deref.result.now =
     grind (arith, common_steps, gets) in
-    last_kept told c.args.self.now.last c.in-Some.last.now c.args.difference.now
+    last_kept shown c.args.self.now.last c.in-Some.last.now c.args.difference.now
     c.args.self.now.is_last
     (subst (λ (ds : List Difference). c.args.self.now.last < length ds) c.deref.ensures.value low)
     (is ∙ ap (λ (ds : List Difference). get_or ds c.args.self.now.last c.in-Some.last.now)

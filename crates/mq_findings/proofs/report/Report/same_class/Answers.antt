@@ -10,26 +10,26 @@ use Rattle.mq_findings.proofs.report.Report.same_class.Goals as goal
 
 pub returns-in-Equal : goal.returns-in-Equal
 returns-in-Equal c =
-    let told = c.args.self.now.differences.items in
+    let shown = c.args.self.now.differences.items in
     let last = c.args.self.now.last in
     let all = c.as_slice-all.result.now in
     let is : c.in-Some.last.now ≡ get_or all last c.in-Some.last.now =
     grind (arith, common_steps, gets) in
-    let rest : take (length all - last) (drop last all) ≡ drop last told =
+    let rest : take (length all - last) (drop last all) ≡ drop last shown =
     take_all (length all - last) (drop last all) (omega (arith, length-drop last all))
     ∙ ap (drop last) c.as_slice-all.ensures.value in
     ap (list_any (λ other. is_like other c.args.difference.now)) rest
-    ∙ like_behind told last c.in-Some.last.now c.args.difference.now c.args.self.now.is_last
+    ∙ like_behind shown last c.in-Some.last.now c.args.difference.now c.args.self.now.is_last
     (is ∙ ap (λ (ds : List Difference). get_or ds last c.in-Some.last.now)
     c.as_slice-all.ensures.value) (sym c.in-Equal.ensures)
 
 pub returns-in-Greater : goal.returns-in-Greater
 returns-in-Greater c =
-    let told = c.args.self.now.differences.items in
+    let shown = c.args.self.now.differences.items in
     let is : c.in-Some.last.now
     ≡ get_or c.as_slice-all.result.now c.args.self.now.last c.in-Some.last.now =
     grind (arith, common_steps, gets) in
-    sym (like_none told c.args.self.now.last c.in-Some.last.now c.args.difference.now
+    sym (like_none shown c.args.self.now.last c.in-Some.last.now c.args.difference.now
     c.args.self.now.is_last
     (is ∙ ap (λ (ds : List Difference). get_or ds c.args.self.now.last c.in-Some.last.now)
     c.as_slice-all.ensures.value) (sym c.in-Greater.ensures))

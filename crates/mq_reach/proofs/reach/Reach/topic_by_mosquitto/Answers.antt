@@ -16,7 +16,7 @@ use Rattle.mq_witness.proofs.TryLemmas.{none_at, some_at}
 use Rattle.mq_reach.specs.Filled.{IsPassed, IsPatternFault, PassesNone}
 use Rattle.mq_reach.specs.Reach.{IsReachFault, Reads, ReadsNone, list_by}
 use Rattle.mq_reach.proofs.FilledLemmas.{among-pass}
-use Rattle.mq_reach.proofs.ReachLemmas.{fault-told, none_then, some_then}
+use Rattle.mq_reach.proofs.ReachLemmas.{fault-shown, none_then, some_then}
 use Rattle.mq_reach.proofs.RulesLemmas.{all-among, denies_in, grants_in, limit-reach, none-moved}
 use Rattle.mq_reach.proofs.RulesLemmas.{own-among, passed-moved, pattern-reach, patterns_in}
 use Rattle.mq_reach.proofs.RulesLemmas.{reads-none, reads-own, reads-pattern, twice-among}
@@ -49,7 +49,7 @@ returns-in_err-own-clause-fault c =
     (c.in_ok-granting.ensures.among (grants_in rows) c.self.invariant.grants_grouped) in
     rw (fault.1, fault.2) (limit-reach list client (option_copied c.args.user) own
     c.args.filter.now c.in_err-own.field-0.0 c.user_by-user.ensures
-    (fault-told list rows client own c.args.filter.now (row_view c.in_ok-row.row) is.0
+    (fault-shown list rows client own c.args.filter.now (row_view c.in_ok-row.row) is.0
     c.in_err-own.field-0.0 (ap (λ (r : AclRow). r.filter) c.in_ok-row.ensures)
     c.self.invariant.all_short
     (All-contains (Contains rows) (lent_rows c.in_ok-granting.granting.items) is.0 among

@@ -15,7 +15,8 @@ use Rattle.mq_acl.specs.declared.access.Direction.TheVariants.{Reading}
 use Rattle.mq_witness.specs.Rows.{lent_rows}
 use Rattle.mq_reach.specs.Reach.{list_by}
 use Rattle.mq_reach.proofs.MatchLemmas.{concerns-matched}
-use Rattle.mq_reach.proofs.ReachLemmas.{allowed-is, among-filtered, fault-told, no_items, none_then}
+use Rattle.mq_reach.proofs.ReachLemmas.{allowed-is, among-filtered}
+use Rattle.mq_reach.proofs.ReachLemmas.{fault-shown, no_items, none_then}
 use Rattle.mq_reach.proofs.ReachLemmas.{same-passes, some_then}
 use Rattle.mq_reach.proofs.reach.Reach.topic_by_own.Goals as goal
 
@@ -63,7 +64,7 @@ returns-in_err-found-clause-fault c =
     (lent_rows c.in_ok-granting.granting.items) is.0
     (c.in_ok-granting.ensures.among granted c.self.invariant.grants_grouped)
     (subst (λ l. Contains (lent_rows l) is.0) c.deref.ensures.value is.1) in
-    rw (fault.1, fault.2) (fault-told (list_by Own c.args.self.now.rows) rows c.args.client.now
+    rw (fault.1, fault.2) (fault-shown (list_by Own c.args.self.now.rows) rows c.args.client.now
     (option_copied c.args.user)
     c.args.filter.now (row_view c.in_ok-row.row) is.0 c.in_err-found.field-0.0
     (ap (λ (r : AclRow). r.filter) c.in_ok-row.ensures) c.self.invariant.all_short

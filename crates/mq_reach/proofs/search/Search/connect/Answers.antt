@@ -32,15 +32,15 @@ returns-in_err-take_over-clause-err c =
     let same : option_copied c.as_deref.result ≡ user = search rules in
     let again : option_copied c.as_deref-2.result ≡ user = search rules in
     let fault = err_from_is_err_and c.from_residual.result c.from_residual.ensures.1 in
-    let told = c.in_err-take_over.ensures.err in
+    let shown = c.in_err-take_over.ensures.err in
     rw (fault.1, fault.2) (connect-fails c.args.list.now c.args.client.now user c.args.clean
     c.args.session_expiry c.args.self.now c.in_err-take_over.field-0.0
     (and_from (is_client_id c.args.client.now) (is_user_name user)
     (sym c.is_client_id.ensures ∙ c.if-not-is_client_id.false)
     (ap is_user_name (sym same) ∙ sym c.is_user_name.ensures ∙ c.if-not-is_user_name.false))
-    told.0
+    shown.0
     (subst (λ u. IsFaultOpen c.args.list.now c.args.client.now u c.args.self.now.tracked
-    c.in_err-take_over.field-0.0) again told.1))
+    c.in_err-take_over.field-0.0) again shown.1))
 
 pub returns-clause-ok : goal.returns-clause-ok
 returns-clause-ok c =

@@ -7,7 +7,7 @@ use Rattle.mq_reach.specs.Faults.{IsFaultAmong}
 use Rattle.mq_reach.specs.Search.{Applies, kind_of}
 use Rattle.mq_reach.specs.Subscriptions.{subscriptions}
 use Rattle.mq_reach.proofs.CommandLemmas.{Applies-none}
-use Rattle.mq_reach.proofs.CountLemmas.{told_in}
+use Rattle.mq_reach.proofs.CountLemmas.{shown_in}
 use Rattle.mq_reach.proofs.SearchLemmas.{if_err_then, if_ok_then, ok_then, said-is}
 use Rattle.mq_reach.proofs.search.Search.read.Goals as goal
 
@@ -30,7 +30,7 @@ returns-in-Err-clause-ok c =
 pub returns-in-Err-clause-kind : goal.returns-in-Err-clause-kind
 returns-in-Err-clause-kind c =
     if_ok_then c.no_command.result
-    (λ kind h. h.0 ∙ ap (λ said. kind_of (told_in (c.args.self.now.counts.lines + 1)
+    (λ kind h. h.0 ∙ ap (λ said. kind_of (shown_in (c.args.self.now.counts.lines + 1)
     c.args.self.now.sessions (command_in said)) said)
     (sym (said-is c.in-Err.fault (reading c.args.line.now) h.1 c.in-Err.ensures.value)))
     c.no_command.ensures.ok

@@ -23,9 +23,9 @@ returns-in_err-sub_filter-clause-err c =
     (subscribe-filter c.args.self.now c.args.client.now c.args.text.now (options_of c.args.options)
     _ c.in_ok-check_client.ensures.refused c.in_err-sub_filter.ensures.err)
 
-some_told : (o : Option (String Global)) → is_some o ≡ is_some (option_map string_bytes o)
-some_told None = refl
-some_told (Some x) = refl
+some_shown : (o : Option (String Global)) → is_some o ≡ is_some (option_map string_bytes o)
+some_shown None = refl
+some_shown (Some x) = refl
 
 pub returns-then-is_shared_no_local-clause-err : goal.returns-then-is_shared_no_local-clause-err
 returns-then-is_shared_no_local-clause-err c =
@@ -33,7 +33,7 @@ returns-then-is_shared_no_local-clause-err c =
     subscribe-shared c.args.self.now c.args.client.now c.args.text.now (options_of c.args.options)
     c.in_ok-check_client.ensures.refused ok.2
     (ap (λ o. is_some o && c.args.options.no_local) (sym ok.0)
-    ∙ ap (λ b. b && c.args.options.no_local) (sym (some_told c.in_ok-sub_filter.sub_filter.share))
+    ∙ ap (λ b. b && c.args.options.no_local) (sym (some_shown c.in_ok-sub_filter.sub_filter.share))
     ∙ sym c.is_shared_no_local.ensures ∙ c.if-is_shared_no_local.true)
 
 pub returns-clause-ok : goal.returns-clause-ok
@@ -45,6 +45,6 @@ returns-clause-ok c =
           (options_of c.args.options) c.in_ok-check_client.ensures.refused ok.2
           (ap (λ o. is_some o && c.args.options.no_local) (sym ok.0)
           ∙ ap (λ b. b && c.args.options.no_local)
-          (sym (some_told c.in_ok-sub_filter.sub_filter.share))
+          (sym (some_shown c.in_ok-sub_filter.sub_filter.share))
           ∙ sym c.is_shared_no_local.ensures ∙ c.if-is_shared_no_local.false),
     )

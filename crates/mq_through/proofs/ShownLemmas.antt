@@ -1,4 +1,4 @@
--- What is told of a question.
+-- What is shown of a question.
 use Rattle.std.proofs.Common.{◌≡◌, ◌==◌, ℕ, Bool, true, false, cond, not, ◌&&◌, ◌||◌}
 use Rattle.std.proofs.Common.{List, [], ◌∷◌, ◌++◌, refl, ap, sym, ◌∙◌, subst, All}
 use Rattle.std.proofs.Common.{Option, Some, None, arith, string_bytes}
@@ -27,7 +27,7 @@ use Rattle.mq_findings.specs.declared.way.Way.TheVariants.{Gained, Lost}
 use Rattle.mq_findings.proofs.FirstLemmas.{none_at}
 use Rattle.mq_findings.proofs.ReportLemmas.{reason_is}
 use Rattle.mq_plan.specs.declared.rule.PlanRule.{PlanRule}
-use Rattle.mq_through.specs.Through.{AreApart, IsReal, Question, is_alike, is_told_of, new_reason}
+use Rattle.mq_through.specs.Through.{AreApart, IsReal, Question, is_alike, is_shown_of, new_reason}
 use Rattle.mq_through.specs.Through.{old_reason, rule_line, same_line}
 use Rattle.mq_through.specs.Tried.{Grows}
 use Rattle.mq_through.specs.declared.renamed.Renamed.{Renamed}
@@ -123,8 +123,8 @@ seven_from a b c d e f g s =
     s.new_line) s.rule
 
 module _ (plan : List PlanRule) (old new : List Row) where
-  abbrev pub Tells : Way → Question → Renamed → Type 0
-  Tells way q r = AreSeven
+  abbrev pub Shows : Way → Question → Renamed → Type 0
+  Shows way q r = AreSeven
       (is_in (row_views old) (row_views new) q.user r.difference.class)
       (same_direction q.direction r.difference.direction)
       (same_way way r.difference.way)
@@ -133,9 +133,9 @@ module _ (plan : List PlanRule) (old new : List Row) where
       (same_reason (new_reason new q) r.difference.new_reason)
       (same_line (rule_line plan q.topic) r.rule)
 
-  pub tells : (way : Way) (q : Question) (r : Renamed)
-      → is_told_of plan old new way q r ≡ true → Tells way q r
-  tells way q r h = seven_parts
+  pub shows : (way : Way) (q : Question) (r : Renamed)
+      → is_shown_of plan old new way q r ≡ true → Shows way q r
+  shows way q r h = seven_parts
       (is_in (row_views old) (row_views new) q.user r.difference.class)
       (same_direction q.direction r.difference.direction)
       (same_way way r.difference.way)
@@ -144,9 +144,9 @@ module _ (plan : List PlanRule) (old new : List Row) where
       (same_reason (new_reason new q) r.difference.new_reason)
       (same_line (rule_line plan q.topic) r.rule) h
 
-  pub told : (way : Way) (q : Question) (r : Renamed) → Tells way q r
-      → is_told_of plan old new way q r ≡ true
-  told way q r s = seven_from
+  pub shown : (way : Way) (q : Question) (r : Renamed) → Shows way q r
+      → is_shown_of plan old new way q r ≡ true
+  shown way q r s = seven_from
       (is_in (row_views old) (row_views new) q.user r.difference.class)
       (same_direction q.direction r.difference.direction)
       (same_way way r.difference.way)
@@ -155,11 +155,11 @@ module _ (plan : List PlanRule) (old new : List Row) where
       (same_reason (new_reason new q) r.difference.new_reason)
       (same_line (rule_line plan q.topic) r.rule) s
 
-  -- what is like one that tells of it tells of it
-  alike_tells : (way : Way) (q : Question) (r s : Renamed) → is_alike r s ≡ true
-      → is_told_of plan old new way q r ≡ true → is_told_of plan old new way q s ≡ true
-  alike_tells way q r s e h =
-      let t = tells way q r h in
+  -- what is like one that speaks of it speaks of it
+  alike_shows : (way : Way) (q : Question) (r s : Renamed) → is_alike r s ≡ true
+      → is_shown_of plan old new way q r ≡ true → is_shown_of plan old new way q s ≡ true
+  alike_shows way q r s e h =
+      let t = shows way q r h in
       let a = seven_parts
       (same_class r.difference.class s.difference.class)
       (same_direction r.difference.direction s.difference.direction)
@@ -168,7 +168,7 @@ module _ (plan : List PlanRule) (old new : List Row) where
       (same_reason r.difference.old_reason s.difference.old_reason)
       (same_reason r.difference.new_reason s.difference.new_reason)
       (same_line r.rule s.rule) e in
-      told way q s (record {
+      shown way q s (record {
         class = class_has (row_views old) (row_views new) q.user r.difference.class
             s.difference.class a.class t.class;
         direction = ap (same_direction q.direction)
@@ -188,20 +188,21 @@ module _ (plan : List PlanRule) (old new : List Row) where
       })
 
   any_alike : (way : Way) (q : Question) (r : Renamed) (all : List Renamed)
-      → list_any (is_alike r) all ≡ true → is_told_of plan old new way q r ≡ true
-      → list_any (is_told_of plan old new way q) all ≡ true
+      → list_any (is_alike r) all ≡ true → is_shown_of plan old new way q r ≡ true
+      → list_any (is_shown_of plan old new way q) all ≡ true
   any_alike way q r [] e h = absurd (let k : false ≡ true = e in cc)
   any_alike way q r (s ∷ all) e h =
       at (is_alike r s) refl e (λ k. any_alike way q r all k h)
     where
       at : (b : Bool) → is_alike r s ≡ b → (b || list_any (is_alike r) all) ≡ true
           → (list_any (is_alike r) all ≡ true
-          → list_any (is_told_of plan old new way q) all ≡ true)
-          → (is_told_of plan old new way q s || list_any (is_told_of plan old new way q) all) ≡ true
-      at true k e later = ap (λ b. b || list_any (is_told_of plan old new way q) all)
-          (alike_tells way q r s k h)
-      at false k e later = ap (λ b. is_told_of plan old new way q s || b) (later e)
-          ∙ or-true (is_told_of plan old new way q s)
+          → list_any (is_shown_of plan old new way q) all ≡ true)
+          → (is_shown_of plan old new way q s || list_any (is_shown_of plan old new way q) all)
+          ≡ true
+      at true k e later = ap (λ b. b || list_any (is_shown_of plan old new way q) all)
+          (alike_shows way q r s k h)
+      at false k e later = ap (λ b. is_shown_of plan old new way q s || b) (later e)
+          ∙ or-true (is_shown_of plan old new way q s)
 
   -- ---- one is added, unless one like it is there
   pub record Adds (r : Renamed) (before after : List Renamed) : Type 0 where
@@ -209,32 +210,32 @@ module _ (plan : List PlanRule) (old new : List Row) where
 
   module _ (r : Renamed) (before after : List Renamed) (a : Adds r before after) where
     pub adds_kept : (way : Way) (q : Question)
-        → list_any (is_told_of plan old new way q) before ≡ true
-        → list_any (is_told_of plan old new way q) after ≡ true
+        → list_any (is_shown_of plan old new way q) before ≡ true
+        → list_any (is_shown_of plan old new way q) after ≡ true
     adds_kept way q h =
-        ap (list_any (is_told_of plan old new way q)) a.is ∙ at (list_any (is_alike r) before)
+        ap (list_any (is_shown_of plan old new way q)) a.is ∙ at (list_any (is_alike r) before)
       where
-        at : (b : Bool) → list_any (is_told_of plan old new way q)
+        at : (b : Bool) → list_any (is_shown_of plan old new way q)
             (cond b before (before ++ (r ∷ []))) ≡ true
         at true = h
         at false =
-            list_any-append (is_told_of plan old new way q) before (r ∷ [])
-            ∙ ap (λ b. b || list_any (is_told_of plan old new way q) (r ∷ [])) h
+            list_any-append (is_shown_of plan old new way q) before (r ∷ [])
+            ∙ ap (λ b. b || list_any (is_shown_of plan old new way q) (r ∷ [])) h
 
-    pub adds_told : (way : Way) (q : Question) → is_told_of plan old new way q r ≡ true
-        → list_any (is_told_of plan old new way q) after ≡ true
-    adds_told way q h =
-        ap (list_any (is_told_of plan old new way q)) a.is
+    pub adds_shown : (way : Way) (q : Question) → is_shown_of plan old new way q r ≡ true
+        → list_any (is_shown_of plan old new way q) after ≡ true
+    adds_shown way q h =
+        ap (list_any (is_shown_of plan old new way q)) a.is
         ∙ at (list_any (is_alike r) before) refl
       where
         at : (b : Bool) → list_any (is_alike r) before ≡ b
-            → list_any (is_told_of plan old new way q)
+            → list_any (is_shown_of plan old new way q)
             (cond b before (before ++ (r ∷ []))) ≡ true
         at true e = any_alike way q r before e h
         at false e =
-            list_any-append (is_told_of plan old new way q) before (r ∷ [])
-            ∙ ap (λ b. list_any (is_told_of plan old new way q) before || (b || false)) h
-            ∙ or-true (list_any (is_told_of plan old new way q) before)
+            list_any-append (is_shown_of plan old new way q) before (r ∷ [])
+            ∙ ap (λ b. list_any (is_shown_of plan old new way q) before || (b || false)) h
+            ∙ or-true (list_any (is_shown_of plan old new way q) before)
 
     pub adds_real : IsReal plan old new r → All (IsReal plan old new) before
         → All (IsReal plan old new) after

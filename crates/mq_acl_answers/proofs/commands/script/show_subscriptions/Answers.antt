@@ -1,11 +1,11 @@
 use Rattle.std.proofs.lemmas.Result.{IfOk-weaker}
-use Rattle.mq_acl_answers.proofs.ScriptLemmas.{told}
-use Rattle.mq_acl_answers.proofs.commands.script.tell_subscriptions.Goals as goal
+use Rattle.mq_acl_answers.proofs.ScriptLemmas.{shown}
+use Rattle.mq_acl_answers.proofs.commands.script.show_subscriptions.Goals as goal
 
 pub returns-clause-ok : goal.returns-clause-ok
 returns-clause-ok g c =
     let found = c.in_ok-findings.ensures.ok in
-    let is = told c.args.options.rules c.args.list.text.now found.0 c.in_ok-findings.findings
+    let is = shown c.args.options.rules c.args.list.text.now found.0 c.in_ok-findings.findings
     c.outcome_of-outcome.result found.3 c.outcome_of-outcome.ensures.clear
     c.outcome_of-outcome.ensures.remark in
     IfOk-weaker c.print_outcome.result _ _

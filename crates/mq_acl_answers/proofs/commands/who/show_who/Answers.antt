@@ -5,7 +5,7 @@ use Rattle.mq_acl.specs.Views.{row_views}
 use Rattle.mq_findings.specs.declared.difference.Difference.{Difference}
 use Rattle.mq_who.specs.Who.{IsListing}
 use Rattle.mq_acl_answers.specs.Who.{IsWho}
-use Rattle.mq_acl_answers.proofs.commands.who.tell_who.Goals as goal
+use Rattle.mq_acl_answers.proofs.commands.who.show_who.Goals as goal
 
 pub returns-clause-ok : goal.returns-clause-ok
 returns-clause-ok g c =
@@ -16,8 +16,8 @@ returns-clause-ok g c =
     (option_copied c.args.selection.only) c.outcome_of-outcome.result = record {
       rows = row_views found.rows;
       read = found.are_rows.read;
-      told = c.outcome_of-outcome.ensures rules found.rows wanted
+      shown = c.outcome_of-outcome.ensures rules found.rows wanted
           (subst (λ (all : List Difference). IsListing rules true found.rows wanted all)
           (sym c.deref.ensures.value) found.granted);
     } in
-    IfOk-weaker c.print_outcome.result _ _ (λ told e. rw e is) c.print_outcome.ensures.ok
+    IfOk-weaker c.print_outcome.result _ _ (λ shown e. rw e is) c.print_outcome.ensures.ok

@@ -7,7 +7,7 @@ use Rattle.mq_reach.specs.Subscriptions.{subscriptions}
 use Rattle.mq_reach.specs.Script.{TakesBytes, script_limit}
 use Rattle.mq_reach.proofs.FaultLemmas.{script_fault, stopped}
 use Rattle.mq_reach.proofs.ScriptLemmas.{HoldsScript-start}
-use Rattle.mq_reach.proofs.reading.find_vain.Goals as goal
+use Rattle.mq_reach.proofs.reading.find_unreached.Goals as goal
 
 pub finish-requires : goal.finish-requires
 unfolding script_limit

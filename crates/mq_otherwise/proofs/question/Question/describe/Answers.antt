@@ -5,7 +5,7 @@ use Rattle.mq_findings.specs.Classes.{user_of}
 use Rattle.mq_findings.specs.Reasons.{reason_of}
 use Rattle.mq_findings.proofs.PointLemmas.{class_user}
 use Rattle.mq_otherwise.proofs.ReportLemmas.{real_of}
-use Rattle.mq_otherwise.proofs.question.Question.tell.Goals as goal
+use Rattle.mq_otherwise.proofs.question.Question.describe.Goals as goal
 
 pub returns : goal.returns
 returns c =

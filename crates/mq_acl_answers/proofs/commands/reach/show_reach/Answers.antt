@@ -1,7 +1,7 @@
 use Rattle.std.specs.Option.{option_copied}
 use Rattle.std.proofs.lemmas.Result.{IfOk-weaker}
 use Rattle.mq_acl_answers.proofs.ReachLemmas.{reached}
-use Rattle.mq_acl_answers.proofs.commands.reach.tell_reach.Goals as goal
+use Rattle.mq_acl_answers.proofs.commands.reach.show_reach.Goals as goal
 
 pub returns-clause-ok : goal.returns-clause-ok
 returns-clause-ok g c =
@@ -10,4 +10,4 @@ returns-clause-ok g c =
     c.in_ok-found.found c.outcome_of-outcome.result c.in_ok-found.ensures.ok
     c.outcome_of-outcome.ensures.clear
     c.outcome_of-outcome.ensures.remark in
-    IfOk-weaker c.print_outcome.result _ _ (λ told e. rw e is) c.print_outcome.ensures.ok
+    IfOk-weaker c.print_outcome.result _ _ (λ shown e. rw e is) c.print_outcome.ensures.ok

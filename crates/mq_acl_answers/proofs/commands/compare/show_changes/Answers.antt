@@ -4,7 +4,7 @@ use Rattle.std.proofs.lemmas.Result.{IfOk-weaker}
 use Rattle.mq_findings.specs.declared.difference.Difference.{Difference}
 use Rattle.mq_acl_answers.specs.Answers.{is_way}
 use Rattle.mq_acl_answers.proofs.CompareLemmas.{compared}
-use Rattle.mq_acl_answers.proofs.commands.compare.tell_changes.Goals as goal
+use Rattle.mq_acl_answers.proofs.commands.compare.show_changes.Goals as goal
 
 for_each : {T E : Type 0} (r : Result T E) (Q : E → Type 0) → ((e : E) → Q e) → IfErr r Q
 for_each (Ok x) Q h = tt
@@ -18,7 +18,7 @@ returns-clause-ok g c =
     c.in_ok-changes.changes c.outcome_of-outcome.result c.in_ok-changes.ensures.ok
     (λ e. ap asked (sym c.deref.ensures.value) ∙ c.outcome_of-outcome.ensures.clear e)
     (λ e. ap asked (sym c.deref.ensures.value) ∙ c.outcome_of-outcome.ensures.remark e) in
-    IfOk-weaker c.print_outcome.result _ _ (λ told e. rw e is) c.print_outcome.ensures.ok
+    IfOk-weaker c.print_outcome.result _ _ (λ shown e. rw e is) c.print_outcome.ensures.ok
 
 pub returns-in_err-changes-clause-unread : goal.returns-in_err-changes-clause-unread
 returns-in_err-changes-clause-unread g c =

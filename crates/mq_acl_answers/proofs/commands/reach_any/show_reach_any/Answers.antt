@@ -1,7 +1,7 @@
 use Rattle.std.specs.Option.{option_copied}
 use Rattle.std.proofs.lemmas.Result.{IfOk-weaker}
 use Rattle.mq_acl_answers.specs.ReachAny.{IsReachedByAny}
-use Rattle.mq_acl_answers.proofs.commands.reach_any.tell_reach_any.Goals as goal
+use Rattle.mq_acl_answers.proofs.commands.reach_any.show_reach_any.Goals as goal
 
 pub returns-clause-ok : goal.returns-clause-ok
 returns-clause-ok g c =
@@ -12,6 +12,6 @@ returns-clause-ok g c =
     c.outcome_of-outcome.result = record {
       rows = found.rows;
       read = found.read;
-      told = c.outcome_of-outcome.ensures rules found.rows user c.args.wanted.now found.told;
+      shown = c.outcome_of-outcome.ensures rules found.rows user c.args.wanted.now found.shown;
     } in
-    IfOk-weaker c.print_outcome.result _ _ (λ told e. rw e is) c.print_outcome.ensures.ok
+    IfOk-weaker c.print_outcome.result _ _ (λ shown e. rw e is) c.print_outcome.ensures.ok

@@ -2,7 +2,7 @@ use Rattle.std.proofs.Common.{◌∙◌, ap, subst, string_bytes}
 use Rattle.std.specs.Option.{option_copied}
 use Rattle.mq_topic.specs.Texts.{filter_part}
 use Rattle.mq_reach.specs.Reach.{IsReachFault}
-use Rattle.mq_reach.proofs.question.is_vain.Goals as goal
+use Rattle.mq_reach.proofs.question.is_unreached.Goals as goal
 
 pub returns-clause-err : goal.returns-clause-err
 returns-clause-err c =

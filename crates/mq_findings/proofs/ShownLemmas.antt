@@ -1,4 +1,4 @@
--- What is told of a witness.
+-- What is shown of a witness.
 use Rattle.std.proofs.Common.{◌≡◌, ◌==◌, ℕ, Bool, true, false, not, List}
 use Rattle.std.proofs.Common.{Option, refl, ap, sym, ◌∙◌, subst, arith}
 use Rattle.std.proofs.Common.{string_bytes}
@@ -17,7 +17,8 @@ use Rattle.mq_witness.specs.declared.witness.Witness.{Witness}
 use Rattle.mq_findings.specs.Classes.{is_in, user_of}
 use Rattle.mq_findings.specs.Differences.{AreUnnamed, IsMarked, Shows, is_change, same_direction}
 use Rattle.mq_findings.specs.Differences.{same_reason, same_start, same_way}
-use Rattle.mq_findings.specs.Questions.{IsGain, IsPoint, IsQuestion, IsToldBy, class_of, gain_cover}
+use Rattle.mq_findings.specs.Questions.{IsGain, IsPoint, IsQuestion}
+use Rattle.mq_findings.specs.Questions.{IsShownBy, class_of, gain_cover}
 use Rattle.mq_findings.specs.Questions.{asked_in, gain_must, gain_reasons, rules_in}
 use Rattle.mq_findings.specs.Reasons.{reason_of}
 use Rattle.mq_findings.specs.Reports.{IsSound}
@@ -57,7 +58,7 @@ start_same a b e = at (begins_with_dollar a) (begins_with_dollar b) e
     at false false e = refl
 
 -- ---- a difference of a question and a gain
--- what is told of a witness: with this class and these texts
+-- what is shown of a witness: with this class and these texts
 pub record IsOf (q : Question) (gain : Gain) (w : Witness) (d : Difference) : Type 0 where
   pub class : d.class ≡ class_of q.clients w.user
   pub direction : d.direction ≡ q.direction
@@ -97,27 +98,27 @@ shows_at q gain w d client user topic k g s o p e =
           ∙ ap (λ x. reason_of rules new client user topic x) (sym o.direction);
     }
 
--- it is told of each client and topic where they decide
-pub told_at : (dollar : Bool) (q : Question) (gain : Gain) (w : Witness) (d : Difference)
+-- it is shown of each client and topic where they decide
+pub shown_at : (dollar : Bool) (q : Question) (gain : Gain) (w : Witness) (d : Difference)
     → IsQuestion q → IsGain q gain
     → ShowsBy (asked_in q) q.clients (gain_must gain) (gain_cover gain) w
-    → begins_with_dollar w.name ≡ dollar → IsOf q gain w d → IsToldBy dollar q gain d
-told_at dollar q gain w d k g s start o client topic user p kind e =
+    → begins_with_dollar w.name ≡ dollar → IsOf q gain w d → IsShownBy dollar q gain d
+shown_at dollar q gain w d k g s start o client topic user p kind e =
     let rules = rules_in q in
     let old = q.lists.now.old.now in
     let new = q.lists.now.new.now in
-    let shown = shows_at q gain w d client user topic k g s o p e in
+    let is_shown = shows_at q gain w d client user topic k g s o p e in
     rw (
-      shown.class,
+      is_shown.class,
       ap (same_direction q.direction) o.direction ∙ direction_itself q.direction,
       ap (same_way q.way) o.way ∙ way_itself q.way,
       start_same topic d.topic
           (kind ∙ sym start ∙ ap begins_with_dollar (sym o.topic)),
       ap (λ x. same_reason (reason_of rules old client user topic x) d.old_reason) (sym o.direction)
-          ∙ ap (same_reason (reason_of rules old client user topic d.direction)) shown.old_reason
+          ∙ ap (same_reason (reason_of rules old client user topic d.direction)) is_shown.old_reason
           ∙ reason_itself (reason_of rules old client user topic d.direction),
       ap (λ x. same_reason (reason_of rules new client user topic x) d.new_reason) (sym o.direction)
-          ∙ ap (same_reason (reason_of rules new client user topic d.direction)) shown.new_reason
+          ∙ ap (same_reason (reason_of rules new client user topic d.direction)) is_shown.new_reason
           ∙ reason_itself (reason_of rules new client user topic d.direction),
     ) refl
 
@@ -147,11 +148,11 @@ sound_of q gain w d k g s t n o m u =
       stands = λ text other stands valid.
           at_difference (λ client user topic. Shows rules old new d (swap text other client)
           (swap_user text other user) (swap_name text other topic)) user o.client o.topic
-          (let shown = t text other stands
+          (let is_shown = t text other stands
           (subst (λ n. is_name (swap_name text other n) ≡ true) o.topic valid) in
           shows_at q gain w d (swap text other (string_bytes w.client))
           (swap_user text other (user_view w.user)) (swap_name text other w.name) k g s o
-          (record { is_asked = shown.is_asked; valid = shown.valid }) shown.decided);
+          (record { is_asked = is_shown.is_asked; valid = is_shown.valid }) is_shown.decided);
     }
   where
     at_difference : (P : List ℕ → Option (List ℕ) → List ℕ → Type 0)

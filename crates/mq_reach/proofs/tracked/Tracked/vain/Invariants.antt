@@ -1,6 +1,0 @@
-use Rattle.std.proofs.Common.{◌≡◌, map}
-use Rattle.mq_reach.specs.Tracked.{entry_view, subscription_views, vain_of}
-use Rattle.mq_reach.proofs.tracked.Tracked.vain.Given as goal
-
-abbrev pub invariant-loop-entry : goal.invariant-loop-entry
-invariant-loop-entry l = subscription_views l.vain.items ≡ vain_of (map entry_view l.yielded)
