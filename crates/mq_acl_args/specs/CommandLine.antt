@@ -310,17 +310,16 @@ reach_view file (about.OfAny user wanted) = ReachAny file (option_copied user) w
 reach_view file (about.In script) = ReachAll file script.now
 
 abbrev pub question_view : Question → Asked
-question_view (asks.Compare old new only script) =
-    Compare old.now new.now only (option_copied script)
-question_view (asks.Through old new plan only) = Through old.now new.now plan.now only
-question_view (asks.Why file client topic may) =
-    Why file.now (client_view client) topic.now may
+question_view (asks.Compare q) = Compare q.old.now q.new.now q.only (option_copied q.script)
+question_view (asks.Through q) = Through q.old.now q.new.now q.plan.now q.only
+question_view (asks.Why q) = Why q.file.now (client_view q.client) q.topic.now q.may
 question_view (asks.Lint files) = Lint (map (λ file. file.now) files.items)
-question_view (asks.Reach file subscriptions) = reach_view file.now subscriptions
-question_view (asks.Who file wanted selection script) =
-    Who file.now wanted.now selection.access (option_copied selection.only) (option_copied script)
-question_view (asks.Test expected lists junit) =
-    Test expected.now (map (λ file. file.now) lists.items) (option_copied junit)
+question_view (asks.Reach q) = reach_view q.file.now q.subscriptions
+question_view (asks.Who q) =
+    Who q.file.now q.wanted.now q.selection.access (option_copied q.selection.only)
+    (option_copied q.script)
+question_view (asks.Test q) =
+    Test q.expected.now (map (λ file. file.now) q.lists.items) (option_copied q.junit)
 
 -- the values of the subcommand
 abbrev pub values_of : Option (Text × List Row) → List Row

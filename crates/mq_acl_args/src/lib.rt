@@ -16,6 +16,6 @@ pub use command_line::arguments;
 pub use files::is_input;
 pub use mq_args::UsageFault;
 pub use options::Options;
-pub use question::{Question, Subscriptions};
+pub use question::{Compare, Question, Reach, Subscriptions, Test, Through, Who, Why};
 pub use request::Request;
 pub use selection::Selection;

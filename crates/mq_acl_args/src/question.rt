@@ -42,65 +42,86 @@ impl Subscriptions<'_> {
     }
 }
 
+/// What one list allows and the other doesn't.
+#[derive(Clone, Copy, Drop)]
+pub struct Compare<'a> {
+    /// The file of the old list.
+    pub old: &'a str,
+    /// The file of the new one.
+    pub new: &'a str,
+    /// Which differences alone are shown, if not all.
+    pub only: Option<Way>,
+    /// The file of a script whose publishes are counted, if one is given.
+    pub script: Option<&'a str>,
+}
+
+/// The same through a plan: of a topic by the old list, and of its new name by the new one.
+#[derive(Clone, Copy, Drop)]
+pub struct Through<'a> {
+    /// The file of the old list.
+    pub old: &'a str,
+    /// The file of the new one.
+    pub new: &'a str,
+    /// The file of the plan.
+    pub plan: &'a str,
+    /// Which differences alone are shown, if not all.
+    pub only: Option<Way>,
+}
+
+/// Which lines decide whether a client may read and write a topic.
+#[derive(Clone, Copy, Drop)]
+pub struct Why<'a> {
+    /// The file of the list.
+    pub file: &'a str,
+    pub client: Client<'a>,
+    pub topic: &'a str,
+    /// Whether it may is the status, of reading or of writing.
+    pub may: Option<Direction>,
+}
+
+/// Whether subscriptions can be sent anything.
+#[derive(Clone, Copy, Drop)]
+pub struct Reach<'a> {
+    /// The file of the list.
+    pub file: &'a str,
+    pub subscriptions: Subscriptions<'a>,
+}
+
+/// Who may read or write what a filter matches.
+#[derive(Clone, Copy, Drop)]
+pub struct Who<'a> {
+    /// The file of the list.
+    pub file: &'a str,
+    /// The filter.
+    pub wanted: &'a str,
+    /// Of whom it is shown.
+    pub selection: Selection<'a>,
+    /// The file of a script whose publishes are counted, if one is given.
+    pub script: Option<&'a str>,
+}
+
+/// Whether lists are as is expected of them.
+#[derive(Drop)]
+pub struct Test<'a> {
+    /// The file of what is expected.
+    pub expected: &'a str,
+    /// The files of the lists, if others than those that it names are meant.
+    pub lists: Vec<&'a str>,
+    /// The file to write the same to as JUnit's XML, if one is wanted.
+    pub junit: Option<&'a str>,
+}
+
 /// A question to access lists, each in a file.
 #[derive(Drop)]
 pub enum Question<'a> {
-    /// What one list allows and the other doesn't.
-    Compare {
-        old: &'a str,
-        new: &'a str,
-        /// Which differences alone are shown, if not all.
-        only: Option<Way>,
-        /// The file of a script whose publishes are counted, if one is given.
-        script: Option<&'a str>,
-    },
-    /// The same through a plan: of a topic by the old list, and of its new name by the new one.
-    Through {
-        old: &'a str,
-        new: &'a str,
-        /// The file of the plan.
-        plan: &'a str,
-        /// Of which differences alone it is told, if not of all.
-        only: Option<Way>,
-    },
-    /// Which lines decide whether a client may read and write a topic.
-    Why {
-        file: &'a str,
-        client: Client<'a>,
-        topic: &'a str,
-        /// Whether it may is the status, of reading or of writing.
-        may: Option<Direction>,
-    },
-    /// Which lines have a fault or change nothing.
-    Lint {
-        files: Vec<&'a str>,
-    },
-    /// Whether subscriptions can be sent anything.
-    Reach {
-        /// The file of the list.
-        file: &'a str,
-        subscriptions: Subscriptions<'a>,
-    },
-    /// Who may read or write what a filter matches.
-    Who {
-        /// The file of the list.
-        file: &'a str,
-        /// The filter.
-        wanted: &'a str,
-        /// Of whom it is shown.
-        selection: Selection<'a>,
-        /// The file of a script whose publishes are counted, if one is given.
-        script: Option<&'a str>,
-    },
-    /// Whether lists are as is expected of them.
-    Test {
-        /// The file of what is expected.
-        expected: &'a str,
-        /// The files of the lists, if others than those that it names are meant.
-        lists: Vec<&'a str>,
-        /// The file to write the same to as JUnit's XML, if one is wanted.
-        junit: Option<&'a str>,
-    },
+    Compare(Compare<'a>),
+    Through(Through<'a>),
+    Why(Why<'a>),
+    /// Which lines of these files have a fault or change nothing.
+    Lint(Vec<&'a str>),
+    Reach(Reach<'a>),
+    Who(Who<'a>),
+    Test(Test<'a>),
 }
 
 impl Question<'_> {
@@ -109,25 +130,17 @@ impl Question<'_> {
         ensures { result ≡ input_count (files_of (question_view self.now)) }
     {
         match self {
-            Question::Compare {
-                old,
-                new,
-                script,
-                ..
-            } => inputs_among(&[*old, *new]) + input_in(*script),
-            Question::Through { old, new, plan, .. } => inputs_among(&[*old, *new, *plan]),
-            Question::Why { file, .. } => inputs_among(&[*file]),
-            Question::Lint { files } => inputs_among(files.as_slice()),
-            Question::Reach {
-                file,
-                subscriptions,
-            } => subscriptions.input_count(file),
-            Question::Who { file, script, .. } => inputs_among(&[*file]) + input_in(*script),
-            Question::Test {
-                expected,
-                lists,
-                ..
-            } => { inputs_among(&[*expected]) + inputs_among(lists.as_slice()) }
+            Question::Compare(asked) => {
+                inputs_among(&[asked.old, asked.new]) + input_in(asked.script)
+            }
+            Question::Through(asked) => inputs_among(&[asked.old, asked.new, asked.plan]),
+            Question::Why(asked) => inputs_among(&[asked.file]),
+            Question::Lint(files) => inputs_among(files.as_slice()),
+            Question::Reach(asked) => asked.subscriptions.input_count(asked.file),
+            Question::Who(asked) => inputs_among(&[asked.file]) + input_in(asked.script),
+            Question::Test(asked) => {
+                inputs_among(&[asked.expected]) + inputs_among(asked.lists.as_slice())
+            }
         }
     }
 }

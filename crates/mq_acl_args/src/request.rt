@@ -12,7 +12,7 @@ ghost use Rattle.mq_acl_args.specs.CommandLine.{who_asked_by, why_asked_by};
 
 use crate::client::Client;
 use crate::options::Options;
-use crate::question::{Question, Subscriptions};
+use crate::question::{Compare, Question, Reach, Subscriptions, Test, Through, Who, Why};
 use crate::selection::Selection;
 use clap::ArgMatches;
 use mq_acl::{Direction, Rules};
@@ -72,12 +72,12 @@ fn compare_lists_in<'a>(matches: &ArgMatches<'a>) -> Option<Question<'a>>
         value(matches, "NEW"),
         way_in(matches),
     ) {
-        (Some(old), Some(new), Some(only)) => Some(Question::Compare {
+        (Some(old), Some(new), Some(only)) => Some(Question::Compare(Compare {
             old,
             new,
             only,
             script: value(matches, "script"),
-        }),
+        })),
         _ => None,
     }
 }
@@ -94,12 +94,12 @@ fn through_in<'a>(matches: &ArgMatches<'a>, plan: &'a str) -> Option<Question<'a
         way_in(matches),
         value(matches, "script"),
     ) {
-        (Some(old), Some(new), Some(only), None) => Some(Question::Through {
+        (Some(old), Some(new), Some(only), None) => Some(Question::Through(Through {
             old,
             new,
             plan,
             only,
-        }),
+        })),
         _ => None,
     }
 }
@@ -147,12 +147,12 @@ fn why_in<'a>(matches: &ArgMatches<'a>) -> Option<Question<'a>>
         value(matches, "TOPIC"),
         access_in(matches, "may"),
     ) {
-        (Some(file), Some(id), Some(topic), Some(may)) => Some(Question::Why {
+        (Some(file), Some(id), Some(topic), Some(may)) => Some(Question::Why(Why {
             file,
             client: Client { id, user },
             topic,
             may,
-        }),
+        })),
         _ => None,
     }
 }
@@ -164,7 +164,7 @@ fn lint_in<'a>(alloc: Global, matches: &ArgMatches<'a>) -> Result<Option<Questio
     match matches.get_strs("FILE") {
         Some(files) => {
             let files = Vec::from_slice(alloc, files)?;
-            Ok(Some(Question::Lint { files }))
+            Ok(Some(Question::Lint(files)))
         }
         None => Ok(None),
     }
@@ -184,10 +184,10 @@ fn reach_one_in<'a>(matches: &ArgMatches<'a>, user: Option<&'a str>) -> Option<Q
         (Some(file), Some(id), Some(filter)) => {
             let client = Client { id, user };
             let subscriptions = Subscriptions::Of { client, filter };
-            Some(Question::Reach {
+            Some(Question::Reach(Reach {
                 file,
                 subscriptions,
-            })
+            }))
         }
         _ => None,
     }
@@ -211,10 +211,10 @@ fn reach_any_in<'a>(
         value(matches, "FILTER"),
         value(matches, "script"),
     ) {
-        (Some(file), None, None, None) => Some(Question::Reach {
+        (Some(file), None, None, None) => Some(Question::Reach(Reach {
             file,
             subscriptions,
-        }),
+        })),
         _ => None,
     }
 }
@@ -235,10 +235,10 @@ fn reach_all_in<'a>(
         value(matches, "FILTER"),
         user,
     ) {
-        (Some(file), None, None, None) => Some(Question::Reach {
+        (Some(file), None, None, None) => Some(Question::Reach(Reach {
             file,
             subscriptions: Subscriptions::In(script),
-        }),
+        })),
         _ => None,
     }
 }
@@ -274,12 +274,12 @@ fn who_in<'a>(matches: &ArgMatches<'a>) -> Option<Question<'a>>
         value(matches, "FILTER"),
         access_in(matches, "access"),
     ) {
-        (Some(file), Some(wanted), Some(access)) => Some(Question::Who {
+        (Some(file), Some(wanted), Some(access)) => Some(Question::Who(Who {
             file,
             wanted,
             selection: Selection { access, only },
             script: value(matches, "script"),
-        }),
+        })),
         _ => None,
     }
 }
@@ -303,11 +303,11 @@ fn test_in<'a>(alloc: Global, matches: &ArgMatches<'a>) -> Result<Option<Questio
         return Ok(None);
     };
     let lists = lists_in(alloc, matches)?;
-    Ok(Some(Question::Test {
+    Ok(Some(Question::Test(Test {
         expected,
         lists,
         junit: value(matches, "junit"),
-    }))
+    })))
 }
 
 fn question_in<'a>(

@@ -130,7 +130,7 @@ kept_among start before after files i d low so_far kept none =
     ≡ input_count (texts files) = texts_parted files (i + 1) in
     kept_more start before after files i d low so_far kept (omega arith)
 
--- and what is told of the files so far holds with the next one too
+-- and what is shown of the files so far holds with the next one too
 pub linted_more : (rules : Rules) (known before : Option (List ℕ)) (files : List (Bor (List ℕ))) (i : ℕ)
     (d : Bor (List ℕ)) (outcome next : Outcome) → i < length files
     → input_count (texts files) ≤ 1

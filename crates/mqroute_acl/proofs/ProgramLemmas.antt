@@ -41,7 +41,7 @@ answer-weaker rules noted input (Test expected lists junit) outcome follows is =
   record {
     lists = is.2.lists;
     read = is.2.read;
-    told = is.2.told;
+    shown = is.2.shown;
     silent = λ own plain. follows (is.2.silent own plain);
   },
 )

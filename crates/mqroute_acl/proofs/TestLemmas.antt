@@ -15,7 +15,7 @@ use Rattle.mqroute_acl.specs.Files.{IsTextOf}
 use Rattle.mq_acl_test.proofs.FileLemmas.{any_texts}
 use Rattle.mq_acl_test.specs.Questions.{questions}
 use Rattle.mq_acl_test.specs.declared.list.ReadList.{ReadList}
-use Rattle.mqroute_acl.specs.Test.{AreNamed, AreRead, IsGiven, IsNamed, IsTested, TellsTested}
+use Rattle.mqroute_acl.specs.Test.{AreNamed, AreRead, IsGiven, IsNamed, IsTested, ShowsTested}
 use Rattle.mqroute_acl.specs.declared.test.ListFile.{ListFile}
 use Rattle.mqroute_acl.proofs.FilesLemmas.{first_is_none, next_input, some_input, texts}
 
@@ -53,37 +53,37 @@ pub tested_of : (rules : Rules) (noted : Bool) (known : Option (List ℕ)) (text
     → beside ≡ read
     → (rules ≡ Own → All (λ r. IsQuiet noted r.list.text.now) beside → quiet)
     → lists ≡ read → lines ≡ said → numbered_views said ≡ expectations_of text
-    → TellsTested rules lists (questions given (numbered_views lines)) outcome
+    → ShowsTested rules lists (questions given (numbered_views lines)) outcome
     → IsTested rules noted known text given outcome quiet
 tested_of rules noted known text given first named texts read beside lists said lines outcome
-    are_given more same reads same_beside silent same_lists same_lines entries told = record {
+    are_given more same reads same_beside silent same_lists same_lines entries shown = record {
       lists = read;
       read = reads (subst (AreNamed known given) (sym same) (more (All-weaker (IsGiven known)
           (IsNamed known given) (λ l is among. is) first are_given)));
-      told = subst (λ (all : List ReadList). TellsTested rules all
+      shown = subst (λ (all : List ReadList). ShowsTested rules all
           (questions given (expectations_of text)) outcome) same_lists
-          (subst (λ all. TellsTested rules lists (questions given all) outcome)
-          (ap numbered_views same_lines ∙ entries) told);
+          (subst (λ all. ShowsTested rules lists (questions given all) outcome)
+          (ap numbered_views same_lines ∙ entries) shown);
       silent = λ own plain. silent own (subst (All (λ (r : ReadList). IsQuiet noted r.list.text.now))
           (sym same_beside) plain);
     }
 
 -- the text of the expectations was read before those of the lists
 pub answer_of : (rules : Rules) (noted : Bool) (known after : Option (List ℕ)) (expected : List ℕ)
-    (given names : List (List ℕ)) (text read : List ℕ) (outcome told : Outcome) {quiet : Type 0}
+    (given names : List (List ℕ)) (text read : List ℕ) (outcome shown : Outcome) {quiet : Type 0}
     → input_count (expected ∷ given) ≤ 1 → (is_input expected ≡ false → after ≡ known)
     → names ≡ given → read ≡ text → IsTextOf known expected text
     → ((k : Option (List ℕ)) → (1 ≤ input_count names → k ≡ after)
-    → IsTested rules noted k read names told quiet)
-    → outcome ≡ told
+    → IsTested rules noted k read names shown quiet)
+    → outcome ≡ shown
     → (t : List ℕ) × IsTextOf known expected t × IsTested rules noted known t given outcome quiet
-answer_of rules noted known after expected given names text read outcome told {quiet} once kept
+answer_of rules noted known after expected given names text read outcome shown {quiet} once kept
     same_names same_text is tests same = (
       text,
       is,
       subst (λ (o : Outcome). IsTested rules noted known text given o quiet) (sym same)
-          (subst (λ (t : List ℕ). IsTested rules noted known t given told quiet) same_text
-          (subst (λ (files : List (List ℕ)). IsTested rules noted known read files told quiet) same_names
+          (subst (λ (t : List ℕ). IsTested rules noted known t given shown quiet) same_text
+          (subst (λ (files : List (List ℕ)). IsTested rules noted known read files shown quiet) same_names
           (tests known (λ some. sym (kept (first_is_none expected given once
           (subst (λ (files : List (List ℕ)). 1 ≤ input_count files) same_names some))))))),
     )

@@ -20,11 +20,11 @@ abbrev pub has_way : (only : Option Way) → List Renamed → Bool
 has_way only all = list_any (λ one. is_way only one.difference.way) all
 
 -- nothing changes in a way that is asked about; or something does
-abbrev pub TellsThrough : (only : Option Way) → List PlanRule → (old new : List Row) → Outcome
+abbrev pub ShowsThrough : (only : Option Way) → List PlanRule → (old new : List Row) → Outcome
     → Type 0
-TellsThrough only plan old new Clear = (way : Way) (q : Question) → is_way only way ≡ true
+ShowsThrough only plan old new Clear = (way : Way) (q : Question) → is_way only way ≡ true
     → IsQuestion plan q → is_changed way old new q ≡ false
-TellsThrough only plan old new Remark = (way : Way) × (q : Question) × (is_way only way ≡ true)
+ShowsThrough only plan old new Remark = (way : Way) × (q : Question) × (is_way only way ≡ true)
     × IsQuestion plan q × (is_changed way old new q ≡ true)
 
 -- so it is of the lists and the plan with these texts, by our own rules
@@ -37,4 +37,4 @@ pub record IsComparedThrough (rules : Rules) (only : Option Way) (old new plan :
   pub old_read : rows_by Own old ≡ Ok (row_views old_rows)
   pub new_read : rows_by Own new ≡ Ok (row_views new_rows)
   pub plan_read : rules_of plan ≡ Ok plan_rules
-  pub told : TellsThrough only plan_rules old_rows new_rows outcome
+  pub shown : ShowsThrough only plan_rules old_rows new_rows outcome

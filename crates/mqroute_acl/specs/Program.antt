@@ -11,7 +11,7 @@ use Rattle.mq_acl_args.specs.CommandLine.{ReadsInputOnce}
 use Rattle.mq_acl_answers.specs.Answers.{IsCompared, IsExplained, IsReached}
 use Rattle.mq_acl_answers.specs.Notes.{IsQuiet}
 use Rattle.mq_acl_answers.specs.ReachAny.{IsReachedByAny}
-use Rattle.mq_acl_answers.specs.Script.{AreTold}
+use Rattle.mq_acl_answers.specs.Script.{AreShown}
 use Rattle.mq_acl_answers.specs.Statuses.{outcome_status}
 use Rattle.mq_acl_answers.specs.Who.{IsWho}
 use Rattle.mq_acl_answers.specs.declared.outcome.Outcome.{Outcome}
@@ -46,7 +46,7 @@ IsAnswer rules noted input (ReachAny file user wanted) outcome quiet = (text : L
     × IsTextOf input file text × IsReachedByAny rules text user wanted outcome
     × (rules ≡ Own → IsQuiet noted text → quiet)
 IsAnswer rules noted input (ReachAll file script) outcome quiet = (text lines : List ℕ)
-    × IsTextOf input file text × IsTextOf input script lines × AreTold rules text lines outcome
+    × IsTextOf input file text × IsTextOf input script lines × AreShown rules text lines outcome
     × (rules ≡ Own → IsQuiet noted text → quiet)
 IsAnswer rules noted input (Who file wanted access only script) outcome quiet = (text : List ℕ)
     × IsTextOf input file text × IsWho rules text wanted access only outcome
@@ -61,9 +61,9 @@ IsAnswered rules noted input asked status quiet =
     (question : Asked) × (outcome : Outcome) × (asked ≡ Some question) × ReadsInputOnce question
     × IsAnswer rules noted input question outcome quiet × (status ≡ outcome_status outcome)
 
--- how a fault of the words is told: of help the status is 0, and all of the text is written, or 3 where it can't be
-abbrev pub TellsUsage : UsageFault → ℕ → (before after : Option (List ℕ)) → Type 0
-TellsUsage (Help text) status before after =
+-- how a fault of the words is shown: of help the status is 0, and all of the text is written, or 3 where it can't be
+abbrev pub PrintsUsage : UsageFault → ℕ → (before after : Option (List ℕ)) → Type 0
+PrintsUsage (Help text) status before after =
     ((status ≡ 0) × Appends before after (string_bytes text)) ⊎ (status ≡ 3)
-TellsUsage (Usage text) status before after = (status ≡ 2) × (after ≡ before)
-TellsUsage Memory status before after = (status ≡ 3) × (after ≡ before)
+PrintsUsage (Usage text) status before after = (status ≡ 2) × (after ≡ before)
+PrintsUsage Memory status before after = (status ≡ 3) × (after ≡ before)

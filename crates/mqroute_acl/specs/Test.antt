@@ -32,9 +32,9 @@ pub record IsRead (rules : Rules) (input : Option (List ℕ)) (given : List (Lis
   pub rows : AreRows rules r.list.text.now r.rows.items
 
 -- each line that asks something holds; or one doesn't
-abbrev pub TellsTested : Rules → List ReadList → List Question → Outcome → Type 0
-TellsTested rules lists all Clear = AllHold rules lists all
-TellsTested rules lists all Remark = SomeFails rules lists all
+abbrev pub ShowsTested : Rules → List ReadList → List Question → Outcome → Type 0
+ShowsTested rules lists all Clear = AllHold rules lists all
+ShowsTested rules lists all Remark = SomeFails rules lists all
 
 -- so it is of the expectations with this text, of the lists that are given or else of those that it names; and by our own
 -- rules `quiet` holds, but where it is noted what mosquitto decides otherwise for a list that isn't plain
@@ -42,7 +42,7 @@ pub record IsTested (rules : Rules) (noted : Bool) (input : Option (List ℕ)) (
     (given : List (List ℕ)) (outcome : Outcome) (quiet : Type 0) : Type 0 where
   pub lists : List ReadList
   pub read : All (IsRead rules input given) lists
-  pub told : TellsTested rules lists (questions given (expectations_of text)) outcome
+  pub shown : ShowsTested rules lists (questions given (expectations_of text)) outcome
   pub silent : rules ≡ Own → All (λ r. IsQuiet noted r.list.text.now) lists → quiet
 
 -- ---- before the lists are read

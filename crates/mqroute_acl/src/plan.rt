@@ -11,7 +11,7 @@ ghost use Rattle.mqroute_acl.specs.Plan.{IsComparedThrough, has_way};
 use crate::files::text_of;
 use mq_acl::Rules;
 use mq_acl_answers::{Failure, Outcome, add_otherwise_of_two, is_way, list_failure, print_outcome};
-use mq_acl_args::Options;
+use mq_acl_args::{Options, Through};
 use mq_acl_plan::{
     PlanAnswerFault, PlanScope, RenamedChanges, find_renamed, plan_fault_words, renamed_text,
 };
@@ -202,44 +202,43 @@ fn answer_texts<'a, W: Write>(
     }
 }
 
-/// Of the files of two lists and of a plan.
+/// Of two lists and a plan.
 pub(crate) fn answer_through<'a, R: Files, I: Read, W: Write>(
     rt: &R,
     alloc: Global,
-    files: (&'a str, &'a str, &'a str),
-    only: Option<Way>,
+    asked: Through<'a>,
     options: Options,
     input: &mut I,
     out: &mut W,
     notes: &mut String,
 ) -> Result<Outcome, Failure<'a>>
-    requires { input_count (files.0.now ∷ files.1.now ∷ files.2.now ∷ []) ≤ 1 }
+    requires { input_count (asked.old.now ∷ asked.new.now ∷ asked.plan.now ∷ []) ≤ 1 }
     ensures ok { IfOk result (λ outcome. (old new plan : List ℕ)
-        × IsTextOf (I.remaining input.old) files.entry.0.now old
-        × IsTextOf (I.remaining input.old) files.entry.1.now new
-        × IsTextOf (I.remaining input.old) files.entry.2.now plan
-        × IsComparedThrough options.rules only old new plan outcome
+        × IsTextOf (I.remaining input.old) asked.entry.old.now old
+        × IsTextOf (I.remaining input.old) asked.entry.new.now new
+        × IsTextOf (I.remaining input.old) asked.entry.plan.now plan
+        × IsComparedThrough options.rules asked.entry.only old new plan outcome
         × (IsQuiet options.noted old → IsQuiet options.noted new → notes.new ≡ notes.old)) }
     ensures unread { IfErr result (λ failure. failure_status failure ≡ 2 → out.new ≡ out.old) }
-    ensures kept { input_count (files.entry.0.now ∷ files.entry.1.now ∷ files.entry.2.now ∷ []) ≡ 0
-        → input.new ≡ input.old }
+    ensures kept { input_count (asked.entry.old.now ∷ asked.entry.new.now ∷ asked.entry.plan.now ∷ [])
+        ≡ 0 → input.new ≡ input.old }
 {
-    let old_text = text_of(rt, alloc, files.0, input)?;
-    let new_text = text_of(rt, alloc, files.1, input)?;
-    let plan_text = text_of(rt, alloc, files.2, input)?;
+    let old_text = text_of(rt, alloc, asked.old, input)?;
+    let new_text = text_of(rt, alloc, asked.new, input)?;
+    let plan_text = text_of(rt, alloc, asked.plan, input)?;
     let texts = Texts {
         old: ListText {
-            file: files.0,
+            file: asked.old,
             text: old_text.as_str(),
         },
         new: ListText {
-            file: files.1,
+            file: asked.new,
             text: new_text.as_str(),
         },
         plan: ListText {
-            file: files.2,
+            file: asked.plan,
             text: plan_text.as_str(),
         },
     };
-    answer_texts(alloc, texts, only, options, out, notes)
+    answer_texts(alloc, texts, asked.only, options, out, notes)
 }

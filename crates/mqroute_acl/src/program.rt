@@ -13,21 +13,19 @@ ghost use Rattle.mq_acl_answers.specs.Notes.{IsQuiet};
 ghost use Rattle.mq_acl_answers.specs.Statuses.{failure_status};
 ghost use Rattle.mq_acl_answers.specs.Who.{IsWho};
 ghost use Rattle.mqroute_acl.specs.Files.{IsTextOf};
-ghost use Rattle.mqroute_acl.specs.Program.{IsAnswer, IsAnswered, TellsUsage};
+ghost use Rattle.mqroute_acl.specs.Program.{IsAnswer, IsAnswered, PrintsUsage};
 
 use crate::files::{text_of, traffic_of};
 use crate::lint::answer_lint;
 use crate::plan::answer_through;
 use crate::reach::answer_reach;
 use crate::test::answer_test;
-use mq_acl::Direction;
 use mq_acl_answers::{
-    FAILED, Failure, Outcome, UNREADABLE, print, tell_changes, tell_who, tell_why,
+    FAILED, Failure, Outcome, UNREADABLE, print, show_changes, show_who, show_why,
 };
-use mq_acl_args::{Client, Options, Question, Request, Selection, arguments};
+use mq_acl_args::{Compare, Options, Question, Request, Who, Why, arguments};
 use mq_acl_print::{ListText, ScriptTraffic};
 use mq_args::UsageFault;
-use mq_findings::Way;
 use mq_traffic::Traffic;
 use std::alloc::{AllocError, Global};
 use std::io::{Read, Write};
@@ -44,98 +42,114 @@ fn script_traffic<'s>(
     }
 }
 
-/// Of the files of two lists, and of a script if one is given.
+/// Of two lists, and of the publishes of a script if one is given.
 fn answer_compare<'a, R: Files, I: Read, W: Write>(
     rt: &R,
     alloc: Global,
-    files: (&'a str, &'a str, Option<&'a str>),
-    only: Option<Way>,
+    asked: Compare<'a>,
     options: Options,
     input: &mut I,
     out: &mut W,
     notes: &mut String,
 ) -> Result<Outcome, Failure<'a>>
-    requires { input_count (files.0.now ∷ files.1.now ∷ script_file (option_copied files.2)) ≤ 1 }
+    requires { input_count (asked.old.now ∷ asked.new.now
+        ∷ script_file (option_copied asked.script)) ≤ 1 }
     ensures ok { IfOk result (λ outcome. (old new : List ℕ)
-        × IsTextOf (I.remaining input.old) files.entry.0.now old
-        × IsTextOf (I.remaining input.old) files.entry.1.now new
-        × IsCompared options.rules only old new outcome
+        × IsTextOf (I.remaining input.old) asked.entry.old.now old
+        × IsTextOf (I.remaining input.old) asked.entry.new.now new
+        × IsCompared options.rules asked.entry.only old new outcome
         × (options.rules ≡ Own → IsQuiet options.noted old → IsQuiet options.noted new
         → notes.new ≡ notes.old)) }
     ensures unread { IfErr result (λ failure. failure_status failure ≡ 2 → out.new ≡ out.old) }
-    ensures kept { input_count (files.entry.0.now ∷ files.entry.1.now
-        ∷ script_file (option_copied files.entry.2)) ≡ 0 → input.new ≡ input.old }
+    ensures kept { input_count (asked.entry.old.now ∷ asked.entry.new.now
+        ∷ script_file (option_copied asked.entry.script)) ≡ 0 → input.new ≡ input.old }
 {
-    let old_text = text_of(rt, alloc, files.0, input)?;
-    let new_text = text_of(rt, alloc, files.1, input)?;
-    let traffic = traffic_of(rt, alloc, files.2, input)?;
+    let old_text = text_of(rt, alloc, asked.old, input)?;
+    let new_text = text_of(rt, alloc, asked.new, input)?;
+    let traffic = traffic_of(rt, alloc, asked.script, input)?;
     let old = ListText {
-        file: files.0,
+        file: asked.old,
         text: old_text.as_str(),
     };
     let new = ListText {
-        file: files.1,
+        file: asked.new,
         text: new_text.as_str(),
     };
-    let script = script_traffic(files.2, &traffic);
-    tell_changes(alloc, old, new, only, script, options, out, notes)
+    let script = script_traffic(asked.script, &traffic);
+    show_changes(alloc, old, new, asked.only, script, options, out, notes)
 }
 
 /// Of a client and a topic, and whether the status is of reading or of writing.
 fn answer_why<'a, R: Files, I: Read, W: Write>(
     rt: &R,
     alloc: Global,
-    file: &'a str,
-    about: (Client<'a>, &'a str, Option<Direction>),
+    asked: Why<'a>,
     options: Options,
     input: &mut I,
     out: &mut W,
     notes: &mut String,
 ) -> Result<Outcome, Failure<'a>>
     ensures ok { IfOk result (λ outcome. (text : List ℕ)
-        × IsTextOf (I.remaining input.old) file.entry.now text
-        × IsExplained options.rules about.entry.2 text about.entry.0.id.now
-        (option_copied about.entry.0.user) about.entry.1.now outcome
+        × IsTextOf (I.remaining input.old) asked.entry.file.now text
+        × IsExplained options.rules asked.entry.may text asked.entry.client.id.now
+        (option_copied asked.entry.client.user) asked.entry.topic.now outcome
         × (options.rules ≡ Own → IsQuiet options.noted text → notes.new ≡ notes.old)) }
     ensures unread { IfErr result (λ failure. failure_status failure ≡ 2 → out.new ≡ out.old) }
-    ensures kept { input_count (file.entry.now ∷ []) ≡ 0 → input.new ≡ input.old }
+    ensures kept { input_count (asked.entry.file.now ∷ []) ≡ 0 → input.new ≡ input.old }
 {
-    let text = text_of(rt, alloc, file, input)?;
+    let text = text_of(rt, alloc, asked.file, input)?;
     let list = ListText {
-        file,
+        file: asked.file,
         text: text.as_str(),
     };
-    let (client, topic, may) = about;
-    tell_why(alloc, list, client, topic, may, options, out, notes)
+    show_why(
+        alloc,
+        list,
+        asked.client,
+        asked.topic,
+        asked.may,
+        options,
+        out,
+        notes,
+    )
 }
 
-/// Of a file, a filter, those of whom it is shown, and a script if one is given.
+/// Of a list and a filter: who may, and how many publishes of a script if one is given.
 fn answer_who<'a, R: Files, I: Read, W: Write>(
     rt: &R,
     alloc: Global,
-    about: (&'a str, &'a str, Selection<'a>, Option<&'a str>),
+    asked: Who<'a>,
     options: Options,
     input: &mut I,
     out: &mut W,
     notes: &mut String,
 ) -> Result<Outcome, Failure<'a>>
     ensures ok { IfOk result (λ outcome. (text : List ℕ)
-        × IsTextOf (I.remaining input.old) about.entry.0.now text
-        × IsWho options.rules text about.entry.1.now about.entry.2.access
-        (option_copied about.entry.2.only) outcome
+        × IsTextOf (I.remaining input.old) asked.entry.file.now text
+        × IsWho options.rules text asked.entry.wanted.now asked.entry.selection.access
+        (option_copied asked.entry.selection.only) outcome
         × (options.rules ≡ Own → IsQuiet options.noted text → notes.new ≡ notes.old)) }
     ensures unread { IfErr result (λ failure. failure_status failure ≡ 2 → out.new ≡ out.old) }
-    ensures kept { input_count (about.entry.0.now ∷ script_file (option_copied about.entry.3)) ≡ 0
-        → input.new ≡ input.old }
+    ensures kept { input_count (asked.entry.file.now ∷ script_file (option_copied asked.entry.script))
+        ≡ 0 → input.new ≡ input.old }
 {
-    let text = text_of(rt, alloc, about.0, input)?;
-    let traffic = traffic_of(rt, alloc, about.3, input)?;
+    let text = text_of(rt, alloc, asked.file, input)?;
+    let traffic = traffic_of(rt, alloc, asked.script, input)?;
     let list = ListText {
-        file: about.0,
+        file: asked.file,
         text: text.as_str(),
     };
-    let script = script_traffic(about.3, &traffic);
-    tell_who(alloc, list, about.1, about.2, script, options, out, notes)
+    let script = script_traffic(asked.script, &traffic);
+    show_who(
+        alloc,
+        list,
+        asked.wanted,
+        asked.selection,
+        script,
+        options,
+        out,
+        notes,
+    )
 }
 
 /// Answers what is asked for, in colours or without.
@@ -161,65 +175,21 @@ fn answer<'a, R: Files, I: Read, W: Write>(
         ..request.options
     };
     match request.question {
-        Question::Compare {
-            old,
-            new,
-            only,
-            script,
-        } => {
-            let files = (old, new, script);
-            answer_compare(rt, alloc, files, only, options, input, out, notes)
-        }
-        Question::Through {
-            old,
-            new,
-            plan,
-            only,
-        } => {
-            let files = (old, new, plan);
-            answer_through(rt, alloc, files, only, options, input, out, notes)
-        }
-        Question::Why {
-            file,
-            client,
-            topic,
-            may,
-        } => {
-            let about = (client, topic, may);
-            answer_why(rt, alloc, file, about, options, input, out, notes)
-        }
-        Question::Lint { files } => {
+        Question::Compare(asked) => answer_compare(rt, alloc, asked, options, input, out, notes),
+        Question::Through(asked) => answer_through(rt, alloc, asked, options, input, out, notes),
+        Question::Why(asked) => answer_why(rt, alloc, asked, options, input, out, notes),
+        Question::Lint(files) => {
             answer_lint(rt, alloc, files.as_slice(), options, input, out, notes)
         }
-        Question::Reach {
-            file,
-            subscriptions,
-        } => answer_reach(rt, alloc, file, subscriptions, options, input, out, notes),
-        Question::Who {
-            file,
-            wanted,
-            selection,
-            script,
-        } => {
-            let about = (file, wanted, selection, script);
-            answer_who(rt, alloc, about, options, input, out, notes)
-        }
-        Question::Test {
-            expected,
-            lists,
-            junit,
-        } => {
-            let lists = lists.as_slice();
-            answer_test(
-                rt, alloc, expected, lists, junit, options, input, out, notes,
-            )
-        }
+        Question::Reach(asked) => answer_reach(rt, alloc, asked, options, input, out, notes),
+        Question::Who(asked) => answer_who(rt, alloc, asked, options, input, out, notes),
+        Question::Test(asked) => answer_test(rt, alloc, &asked, options, input, out, notes),
     }
 }
 
 /// Prints a text, or that there was no memory for it, and answers the exit status: the one that is
 /// given, or that of want of memory. A failed write is ignored.
-fn tell<E: Write>(text: Result<String, AllocError>, status: u8, err: &mut E) -> u8
+fn print_error<E: Write>(text: Result<String, AllocError>, status: u8, err: &mut E) -> u8
     ensures { result ≡ (if is_ok text then status else 3) }
 {
     let (line, status) = match &text {
@@ -235,7 +205,7 @@ fn report<E: Write>(alloc: Global, failure: Failure<'_>, err: &mut E) -> u8
     ensures { (result ≡ failure_status failure.entry) ⊎ (result ≡ 3) }
 {
     let text = format!(in alloc; "{failure}\n");
-    tell(text, failure.status(), err)
+    print_error(text, failure.status(), err)
 }
 
 /// Writes what is to be noted beside an answer, and answers its status. A failed write is ignored.
@@ -256,7 +226,7 @@ fn report_usage<W: Write, E: Write>(
     out: &mut W,
     err: &mut E,
 ) -> u8
-    ensures tells { TellsUsage fault result (W.contents out.old) (W.contents out.new) }
+    ensures shows { PrintsUsage fault result (W.contents out.old) (W.contents out.new) }
     ensures unread { result ≡ 2 → out.new ≡ out.old }
     ensures quiet { result ≡ 0 → err.new ≡ err.old }
 {
@@ -265,7 +235,7 @@ fn report_usage<W: Write, E: Write>(
             Ok(()) => 0,
             Err(failure) => report(alloc, failure, err),
         },
-        UsageFault::Usage(text) => tell(Ok(text), UNREADABLE, err),
+        UsageFault::Usage(text) => print_error(Ok(text), UNREADABLE, err),
         UsageFault::Memory => report(alloc, Failure::Memory, err),
     }
 }
@@ -303,7 +273,7 @@ pub(crate) fn start<R: Files, I: Read, W: Write, E: Write>(
     // Of words that are not understood a fault that they have is printed, or that memory ran out.
     ensures usage { let given = map string_bytes words.now in fault_of mqroute_acl given ≢ []
         → (fault : UsageFault) × IsFaultOf given (fault_of mqroute_acl given) fault
-        × TellsUsage fault result (W.contents out.old) (W.contents out.new) }
+        × PrintsUsage fault result (W.contents out.old) (W.contents out.new) }
 
     // Standard input is left alone where no file of the question is `-`, and where the words are not understood.
     ensures kept { (question : Asked)

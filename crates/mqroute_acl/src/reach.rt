@@ -7,14 +7,14 @@ ghost use Rattle.mq_acl_args.specs.Files.{input_count, is_input as is_dash};
 ghost use Rattle.mq_acl_answers.specs.Answers.{IsReached};
 ghost use Rattle.mq_acl_answers.specs.Notes.{IsQuiet};
 ghost use Rattle.mq_acl_answers.specs.ReachAny.{IsReachedByAny};
-ghost use Rattle.mq_acl_answers.specs.Script.{AreTold};
+ghost use Rattle.mq_acl_answers.specs.Script.{AreShown};
 ghost use Rattle.mq_acl_answers.specs.Statuses.{failure_status};
 ghost use Rattle.mqroute_acl.specs.Files.{IsTextOf};
 ghost use Rattle.mqroute_acl.specs.Program.{IsAnswer};
 
 use crate::files::text_of;
-use mq_acl_answers::{Failure, Outcome, tell_reach, tell_reach_any, tell_subscriptions};
-use mq_acl_args::{Client, Options, Subscriptions, is_input};
+use mq_acl_answers::{Failure, Outcome, show_reach, show_reach_any, show_subscriptions};
+use mq_acl_args::{Client, Options, Reach, Subscriptions, is_input};
 use mq_acl_print::ListText;
 use std::alloc::Global;
 use std::fs;
@@ -45,7 +45,7 @@ fn answer_reach_one<'a, R: Files, I: Read, W: Write>(
         file,
         text: text.as_str(),
     };
-    tell_reach(alloc, list, about.0, about.1, options, out, notes)
+    show_reach(alloc, list, about.0, about.1, options, out, notes)
 }
 
 /// Of a file, a user name or none, and a filter: of clients with any id.
@@ -70,7 +70,7 @@ fn answer_reach_any<'a, R: Files, I: Read, W: Write>(
         file: about.0,
         text: text.as_str(),
     };
-    tell_reach_any(alloc, list, about.1, about.2, options, out, notes)
+    show_reach_any(alloc, list, about.1, about.2, options, out, notes)
 }
 
 /// Of the script in a file.
@@ -86,17 +86,17 @@ fn answer_script<'a, R: Files, I: Read, W: Write>(
 ) -> Result<Outcome, Failure<'a>>
     ensures ok { IfOk result (λ outcome. (lines : List ℕ)
         × IsTextOf (I.remaining input.old) script.entry.now lines
-        × AreTold options.rules list.entry.text.now lines outcome
+        × AreShown options.rules list.entry.text.now lines outcome
         × (options.rules ≡ Own → IsQuiet options.noted list.entry.text.now
         → notes.new ≡ notes.old)) }
     ensures unread { IfErr result (λ failure. failure_status failure ≡ 2 → out.new ≡ out.old) }
     ensures kept { is_dash script.entry.now ≡ false → input.new ≡ input.old }
 {
     if is_input(script) {
-        return tell_subscriptions(alloc, list, script, input, options, out, notes);
+        return show_subscriptions(alloc, list, script, input, options, out, notes);
     }
     match fs::open(rt, script) {
-        Ok(mut opened) => tell_subscriptions(alloc, list, script, &mut opened, options, out, notes),
+        Ok(mut opened) => show_subscriptions(alloc, list, script, &mut opened, options, out, notes),
         Err(error) => Err(Failure::of_io(script, error)),
     }
 }
@@ -116,7 +116,7 @@ fn answer_reach_all<'a, R: Files, I: Read, W: Write>(
     ensures ok { IfOk result (λ outcome. (text lines : List ℕ)
         × IsTextOf (I.remaining input.old) file.entry.now text
         × IsTextOf (I.remaining input.old) script.entry.now lines
-        × AreTold options.rules text lines outcome
+        × AreShown options.rules text lines outcome
         × (options.rules ≡ Own → IsQuiet options.noted text → notes.new ≡ notes.old)) }
     ensures unread { IfErr result (λ failure. failure_status failure ≡ 2 → out.new ≡ out.old) }
     ensures kept { input_count (file.entry.now ∷ script.entry.now ∷ []) ≡ 0
@@ -134,22 +134,22 @@ fn answer_reach_all<'a, R: Files, I: Read, W: Write>(
 pub(crate) fn answer_reach<'a, R: Files, I: Read, W: Write>(
     rt: &R,
     alloc: Global,
-    file: &'a str,
-    subscriptions: Subscriptions<'a>,
+    asked: Reach<'a>,
     options: Options,
     input: &mut I,
     out: &mut W,
     notes: &mut String,
 ) -> Result<Outcome, Failure<'a>>
-    requires { ReadsInputOnce (reach_view file.now subscriptions) }
+    requires { ReadsInputOnce (reach_view asked.file.now asked.subscriptions) }
     ensures ok { IfOk result (λ outcome. IsAnswer options.rules options.noted
-        (I.remaining input.old) (reach_view file.entry.now subscriptions.entry) outcome
+        (I.remaining input.old) (reach_view asked.entry.file.now asked.entry.subscriptions) outcome
         (notes.new ≡ notes.old)) }
     ensures unread { IfErr result (λ failure. failure_status failure ≡ 2 → out.new ≡ out.old) }
-    ensures kept { input_count (files_of (reach_view file.entry.now subscriptions.entry)) ≡ 0
+    ensures kept { input_count (files_of (reach_view asked.entry.file.now asked.entry.subscriptions)) ≡ 0
         → input.new ≡ input.old }
 {
-    match subscriptions {
+    let file = asked.file;
+    match asked.subscriptions {
         Subscriptions::Of { client, filter } => {
             let about = (client, filter);
             answer_reach_one(rt, alloc, file, about, options, input, out, notes)

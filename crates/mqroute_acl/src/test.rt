@@ -12,12 +12,12 @@ ghost use Rattle.mq_expect.specs.Files.{numbered_views};
 ghost use Rattle.mq_acl_test.specs.Questions.{asked_view, questions};
 ghost use Rattle.mq_acl_test.specs.declared.list.ReadList.{ReadList};
 ghost use Rattle.mqroute_acl.specs.Files.{IsTextOf};
-ghost use Rattle.mqroute_acl.specs.Test.{AreNamed, AreRead, IsGiven, IsNamed, IsRead, IsTested, TellsTested};
+ghost use Rattle.mqroute_acl.specs.Test.{AreNamed, AreRead, IsGiven, IsNamed, IsRead, IsTested, ShowsTested};
 
 use crate::files::{opened_text, text_of};
 use mq_acl::Rules;
 use mq_acl_answers::{Failure, Outcome, add_otherwise, add_who_limit, list_failure, print_outcome};
-use mq_acl_args::Options;
+use mq_acl_args::{Options, Test};
 use mq_acl_print::ListText;
 use mq_acl_test::{
     ReadList, TestFault, Verdict, all_hold, judge_all, junit_text, read_list, verdicts_text,
@@ -216,7 +216,7 @@ fn failure_of<'t>(expected: &'t str, fault: TestFault<'t>) -> Failure<'t> {
 // Whether each of the lines holds.
 fn outcome_of(verdicts: &[Verdict<'_, '_>]) -> Outcome
     ensures { (rules : Rules) (lists : List ReadList) → All (IsVerdict rules lists) verdicts.now
-        → TellsTested rules lists (map (λ v. asked_view v.asked) verdicts.now) result }
+        → ShowsTested rules lists (map (λ v. asked_view v.asked) verdicts.now) result }
 {
     if all_hold(verdicts) {
         return Outcome::Clear;
@@ -226,7 +226,7 @@ fn outcome_of(verdicts: &[Verdict<'_, '_>]) -> Outcome
 
 // What is said of the lines, and what it comes to.
 #[derive(Drop)]
-struct Told {
+struct Shown {
     text: String,
     // The same in JUnit's XML, if that is wanted.
     junit: Option<String>,
@@ -255,9 +255,9 @@ fn judged<'t>(
     lists: &[ReadList<'t, '_>],
     junit: Option<&str>,
     options: Options,
-) -> Result<Told, Failure<'t>>
-    ensures { IfOk result (λ told. TellsTested options.rules lists.now
-        (questions (map (λ file. file.now) given.now) (numbered_views expectations.now)) told.outcome) }
+) -> Result<Shown, Failure<'t>>
+    ensures { IfOk result (λ shown. ShowsTested options.rules lists.now
+        (questions (map (λ file. file.now) given.now) (numbered_views expectations.now)) shown.outcome) }
 {
     let rules = options.rules;
     let verdicts = match judge_all(alloc, rules, given, expectations, lists, options.steps) {
@@ -265,7 +265,7 @@ fn judged<'t>(
         Err(fault) => return Err(failure_of(expected.file, fault)),
     };
     let outcome = outcome_of(&verdicts);
-    Ok(Told {
+    Ok(Shown {
         text: verdicts_text(alloc, rules, expected, lists, &verdicts, options.json)?,
         junit: junit_if(alloc, junit, expected, lists, &verdicts)?,
         outcome,
@@ -298,12 +298,12 @@ fn tested<'t, R: Files, I: Read>(
     options: Options,
     input: &mut I,
     notes: &mut String,
-) -> Result<Told, Failure<'t>>
+) -> Result<Shown, Failure<'t>>
     requires { input_count (map (λ file. file.now) given.now) ≤ 1 }
-    ensures ok { IfOk result (λ told. (known : Option (List ℕ))
+    ensures ok { IfOk result (λ shown. (known : Option (List ℕ))
         → (1 ≤ input_count (map (λ file. file.now) given.now) → known ≡ I.remaining input.old)
         → IsTested options.rules options.noted known expected.entry.text.now
-        (map (λ file. file.now) given.now) told.outcome (notes.new ≡ notes.old)) }
+        (map (λ file. file.now) given.now) shown.outcome (notes.new ≡ notes.old)) }
     ensures kept { input_count (map (λ file. file.now) given.now) ≡ 0 → input.new ≡ input.old }
 {
     let mut lists = given_texts(rt, alloc, given, input)?;
@@ -349,33 +349,32 @@ fn write_junit<'a, R: Files>(
 pub(crate) fn answer_test<'a, R: Files, I: Read, W: Write>(
     rt: &R,
     alloc: Global,
-    expected: &'a str,
-    given: &[&'a str],
-    junit: Option<&'a str>,
+    asked: &Test<'a>,
     options: Options,
     input: &mut I,
     out: &mut W,
     notes: &mut String,
 ) -> Result<Outcome, Failure<'a>>
-    requires { input_count (expected.now ∷ map (λ file. file.now) given.now) ≤ 1 }
+    requires { input_count (asked.now.expected.now
+        ∷ map (λ file. file.now) asked.now.lists.items) ≤ 1 }
     ensures ok { IfOk result (λ outcome. (text : List ℕ)
-        × IsTextOf (I.remaining input.old) expected.entry.now text
+        × IsTextOf (I.remaining input.old) asked.entry.now.expected.now text
         × IsTested options.rules options.noted (I.remaining input.old) text
-        (map (λ file. file.now) given.entry.now) outcome (notes.new ≡ notes.old)) }
+        (map (λ file. file.now) asked.entry.now.lists.items) outcome (notes.new ≡ notes.old)) }
     ensures unread { IfErr result (λ failure. failure_status failure ≡ 2 → out.new ≡ out.old) }
-    ensures kept { input_count (expected.entry.now ∷ map (λ file. file.now) given.entry.now) ≡ 0
-        → input.new ≡ input.old }
+    ensures kept { input_count (asked.entry.now.expected.now
+        ∷ map (λ file. file.now) asked.entry.now.lists.items) ≡ 0 → input.new ≡ input.old }
 {
-    let text = text_of(rt, alloc, expected, input)?;
-    let given = shorter(alloc, given)?;
+    let text = text_of(rt, alloc, asked.expected, input)?;
+    let given = shorter(alloc, asked.lists.as_slice())?;
     let said = ListText {
-        file: expected,
+        file: asked.expected,
         text: text.as_str(),
     };
-    match tested(rt, alloc, said, &given, junit, options, input, notes) {
-        Ok(told) => {
-            write_junit(rt, junit, told.junit)?;
-            print_outcome(out, Ok(told.text), told.outcome)
+    match tested(rt, alloc, said, &given, asked.junit, options, input, notes) {
+        Ok(shown) => {
+            write_junit(rt, asked.junit, shown.junit)?;
+            print_outcome(out, Ok(shown.text), shown.outcome)
         }
         Err(failure) => Err(Failure::of_named(alloc, failure)),
     }

@@ -16,7 +16,7 @@ returns-clause-ok g c =
     c.outcome_of-outcome.result c.requires c.in_ok-changes.ensures
     (λ e. ap asked (sym c.deref.ensures.value) ∙ c.outcome_of-outcome.ensures.clear e)
     (λ e. ap asked (sym c.deref.ensures.value) ∙ c.outcome_of-outcome.ensures.remark e) in
-    IfOk-weaker c.print_outcome.result _ _ (λ told e. rw e is) c.print_outcome.ensures.ok
+    IfOk-weaker c.print_outcome.result _ _ (λ shown e. rw e is) c.print_outcome.ensures.ok
 
 pub returns-in_err-changes-clause-unread : goal.returns-in_err-changes-clause-unread
 returns-in_err-changes-clause-unread g c =

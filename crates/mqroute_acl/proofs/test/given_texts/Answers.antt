@@ -11,12 +11,12 @@ loop-file-preserved g c =
     record {
       kept = kept_more c.args.input.now at.input c.text_of.new.input files at.file-index _
           c.loop-file-test.true at.invariant.kept c.text_of.ensures.kept;
-      read = λ told is_known.
+      read = λ shown is_known.
           rw c.in_ok-add_text.ensures
-          (given_more told (known c.args.input.now) (known at.input) files at.file-index _
+          (given_more shown (known c.args.input.now) (known at.input) files at.file-index _
           at.lists.items _ c.loop-file-test.true c.requires
           (λ none. ap known (at.invariant.kept none)) is_known refl c.in_ok-text.ensures.ok
-          (at.invariant.read told is_known));
+          (at.invariant.read shown is_known));
     }
 
 pub returns-in_err-text-clause-kept : goal.returns-in_err-text-clause-kept
