@@ -1,81 +1,96 @@
--- The verdict of an access list, row by row.
-use Rattle.std.proofs.Common.{◌≡◌, ℕ, Bool, true, false, not, ◌&&◌, ◌||◌, if◌then◌else◌, List, []}
-use Rattle.std.proofs.Common.{◌∷◌, Option, Some, None, refl, ap, sym, ◌∙◌}
+-- What rows decide, by what they do and whom they are for.
+use Rattle.std.proofs.Common.{◌≡◌, ℕ, Bool, true, false, not, ◌&&◌, ◌||◌, List, [], ◌∷◌, Option, Some, refl}
+use Rattle.std.proofs.Common.{ap, sym, ◌∙◌}
 use Rattle.std.specs.List.{list_any, filter}
-use Rattle.std.specs.Option.{unwrap_or}
 use Rattle.mq_acl.specs.AccessLists.{AccessList, allow_by, allowed}
-use Rattle.mq_acl.specs.Rows.{AclRow}
-use Rattle.mq_acl.specs.declared.access.Direction.{Direction}
 use Rattle.mq_acl.specs.Access.{is_deny, grants, concerns, covers, applies, rows_allow}
+use Rattle.mq_acl.specs.Lines.{Access, Read, Write, ReadWrite, Deny}
+use Rattle.mq_acl.specs.Rows.{AclRow}
+use Rattle.mq_acl.specs.RowsByOwner.{IsGrouped, everyones, own_rows}
+use Rattle.mq_acl.specs.Views.{row_view, row_views}
+use Rattle.mq_acl.specs.declared.access.Direction.{Direction}
+use Rattle.mq_acl.specs.declared.access.Direction.TheVariants.{Reading, Writing}
+use Rattle.mq_acl.specs.declared.row.Row.{Row}
 use Rattle.mq_acl.specs.declared.rows_by_owner.RowsByOwner.{RowsByOwner}
-use Rattle.mq_acl.specs.RowsByOwner.{is_own, is_everyones, IsGrouped, everyones, own_rows, judged}
-use Rattle.mq_acl.proofs.RowsByOwnerLemmas.{any_of_groups}
+use Rattle.mq_acl.proofs.RowsByOwnerLemmas.{any_kept, any_of_groups}
 
--- what the rows for all and those of the user say, one after the other, is what all rows say
-pub allowed_by_groups : (client : List ℕ) (user : Option (List ℕ)) (name : List ℕ)
-    (direction : Direction) (rows everyones own : List AclRow)
-    → everyones ≡ filter (λ row. is_everyones row.who) rows
-    → own ≡ filter (λ row. is_own user row.who) rows
-    → rows_allow rows client user name direction
-    ≡ (not (list_any (λ row. concerns client user name row && is_deny row.access) everyones
-    || list_any (λ row. concerns client user name row && is_deny row.access) own)
-    && (list_any (λ row. concerns client user name row && grants direction row.access) everyones
-    || list_any (λ row. concerns client user name row && grants direction row.access) own))
-allowed_by_groups client user name direction rows everyones own a o =
-    (λ i. not (any (λ row. is_deny row.access) i) && any (λ row. grants direction row.access) i)
+-- a row that grants doesn't deny
+pub grants_only : (direction : Direction) (access : Access)
+    → grants direction access ≡ (grants direction access && not (is_deny access))
+grants_only Reading Read = refl
+grants_only Reading Write = refl
+grants_only Reading ReadWrite = refl
+grants_only Reading Deny = refl
+grants_only Writing Read = refl
+grants_only Writing Write = refl
+grants_only Writing ReadWrite = refl
+grants_only Writing Deny = refl
+
+denied_among : (applies covers deny : Bool)
+    → (deny && (applies && covers)) ≡ ((applies && covers) && deny)
+denied_among true true true = refl
+denied_among true true false = refl
+denied_among true false true = refl
+denied_among true false false = refl
+denied_among false covers true = refl
+denied_among false covers false = refl
+
+granted_among : (applies covers grants other : Bool) → grants ≡ (grants && other)
+    → (other && (applies && (grants && covers))) ≡ ((applies && covers) && grants)
+granted_among a c g o e = ordered a c g o ∙ ap (λ b. (a && c) && b) (sym e)
   where
-    assoc : (a b c : Bool) → ((a && b) && c) ≡ (a && (b && c))
-    assoc true b c = refl
-    assoc false b c = refl
+    ordered : (a c g o : Bool) → (o && (a && (g && c))) ≡ ((a && c) && (g && o))
+    ordered true true true true = refl
+    ordered true true true false = refl
+    ordered true true false true = refl
+    ordered true true false false = refl
+    ordered true false true true = refl
+    ordered true false true false = refl
+    ordered true false false true = refl
+    ordered true false false false = refl
+    ordered false c g true = refl
+    ordered false c g false = refl
 
-    same : (test : AclRow → Bool) (rs : List AclRow)
-        → list_any (λ row. concerns client user name row && test row) rs
-        ≡ list_any (λ row. applies user row.who && (covers client user name row && test row)) rs
-    same test [] = refl
-    same test (row ∷ rs) =
-        (λ i. assoc (applies user row.who) (covers client user name row) (test row) i
-        || same test rs i)
+-- a test of views
+pub any_viewed : (test : AclRow → Bool) (rows : List Row)
+    → list_any (λ row. test (row_view row)) rows ≡ list_any test (row_views rows)
+any_viewed test [] = refl
+any_viewed test (row ∷ rows) = ap (λ b. test (row_view row) || b) (any_viewed test rows)
 
-    any : (test : AclRow → Bool) → list_any (λ row. concerns client user name row && test row) rows
-        ≡ (list_any (λ row. concerns client user name row && test row) everyones
-        || list_any (λ row. concerns client user name row && test row) own)
-    any test =
-        same test rows ∙ any_of_groups user (λ row. covers client user name row && test row) rows
-        ∙ (λ i. sym (same test (filter (λ row. is_everyones row.who) rows)) i
-        || sym (same test (filter (λ row. is_own user row.who) rows)) i)
-        ∙ (λ i. list_any (λ row. concerns client user name row && test row) (sym a i)
-        || list_any (λ row. concerns client user name row && test row) (sym o i))
+-- where it is tried of the rows for all clients, and then of those for this user alone
+pub any_by_owner : (test : AclRow → Bool) (user : Option (List ℕ)) (rows : List AclRow)
+    (by_owner : RowsByOwner) (all : List Row) (own : List AclRow) {first : Bool}
+    → IsGrouped rows by_owner → row_views all ≡ everyones by_owner → own ≡ own_rows user by_owner
+    → first ≡ list_any (λ row. test (row_view row)) all
+    → (first || list_any test own) ≡ list_any (λ row. applies user row.who && test row) rows
+any_by_owner test user rows by_owner all own grouped all_is own_is first_is =
+    ap (λ b. b || list_any test own) (first_is ∙ any_viewed test all)
+    ∙ (λ i. list_any test ((all_is ∙ grouped.all) i)
+    || list_any test ((own_is ∙ grouped.own user) i))
+    ∙ any_of_groups user test rows
 
--- whether one grants, of what the first rows say and then the others
-abbrev pub then_own : Option Bool → (Bool → Option Bool) → Bool
-then_own None others = false
-then_own (Some granted) others = unwrap_or (others granted) false
-
-in_turn : (all own some mine : Bool) → (not (all || own) && (some || mine))
-    ≡ then_own (if all then None else Some (false || some))
-    (λ granted. if own then None else Some (granted || mine))
-in_turn true own some mine = refl
-in_turn false true some mine = refl
-in_turn false false some mine = refl
-
--- what the rows for all say, and then those of the user, is what all rows say
-pub judged_in_turn : (client : List ℕ) (user : Option (List ℕ)) (name : List ℕ)
-    (direction : Direction) (rows : List AclRow) (by_owner : RowsByOwner) (first : Option Bool)
-    (all own : List AclRow)
-    → IsGrouped rows by_owner → all ≡ everyones by_owner → own ≡ own_rows user by_owner
-    → first ≡ judged client user name direction false all
-    → then_own first (λ granted. judged client user name direction granted own)
-    ≡ rows_allow rows client user name direction
-judged_in_turn client user name direction rows by_owner first all own g a o e =
-    ap (λ f. then_own f (λ granted. judged client user name direction granted own)) e
-    ∙ sym (in_turn (denies all) (denies own) (grant all) (grant own))
-    ∙ sym (allowed_by_groups client user name direction rows all own (a ∙ g.all) (o ∙ g.own user))
+-- what the rows that deny say, and those that grant, is what all rows say
+pub allowed_by_access : (client : List ℕ) (user : Option (List ℕ)) (name : List ℕ)
+    (direction : Direction) (rows : List AclRow) (denied granted : Bool)
+    → denied ≡ list_any (concerns client user name) (filter (λ row. is_deny row.access) rows)
+    → granted ≡ list_any (λ row. applies user row.who
+    && (grants direction row.access && covers client user name row))
+    (filter (λ row. not (is_deny row.access)) rows)
+    → (not denied && granted) ≡ rows_allow rows client user name direction
+allowed_by_access client user name direction rows denied granted denied_is granted_is =
+    (λ i. not (denied_is i) && granted_is i)
+    ∙ (λ i. not (any_kept (concerns client user name) (λ row. is_deny row.access) rows i)
+    && any_kept (λ row. applies user row.who && grant row) (λ row. not (is_deny row.access)) rows i)
+    ∙ (λ i. not (list_any (λ row. denied_among (applies user row.who) (cov row) (is_deny row.access) i)
+    rows)
+    && list_any (λ row. granted_among (applies user row.who) (cov row) (grants direction row.access)
+    (not (is_deny row.access)) (grants_only direction row.access) i) rows)
   where
-    denies : List AclRow → Bool
-    denies rs = list_any (λ row. concerns client user name row && is_deny row.access) rs
+    cov : AclRow → Bool
+    cov row = covers client user name row
 
-    grant : List AclRow → Bool
-    grant rs = list_any (λ row. concerns client user name row && grants direction row.access) rs
+    grant : AclRow → Bool
+    grant row = grants direction row.access && covers client user name row
 
 -- with a list its rows decide
 pub allowed_by_list : (list : AccessList) (client : List ℕ) (user : Option (List ℕ))

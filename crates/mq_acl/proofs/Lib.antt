@@ -1,3 +1,4 @@
+pub mod StartLemmas
 pub mod AccessLemmas
 pub mod FaultLemmas
 pub mod RowsByOwnerLemmas

@@ -1,16 +1,21 @@
 -- What rows decide by the rules of mosquitto.
-use Rattle.std.proofs.Common.{◌≡◌, ℕ, Bool, true, not, ◌&&◌, ◌||◌, if◌then◌else◌, List, []}
-use Rattle.std.proofs.Common.{Option, ap, sym, ◌∙◌}
-use Rattle.std.specs.List.{list_any}
-use Rattle.std.specs.Option.{unwrap_or}
+use Rattle.std.proofs.Common.{◌≡◌, ℕ, Bool, true, false, not, ◌&&◌, ◌||◌, if◌then◌else◌, List, []}
+use Rattle.std.proofs.Common.{Option, refl, ap, sym, ◌∙◌}
+use Rattle.std.specs.List.{filter, list_any}
+use Rattle.std.specs.Option.{option_or, unwrap_or}
 use Rattle.mq_topic.specs.Levels.{levels}
 use Rattle.mq_topic.specs.Matching.{matches}
 use Rattle.mq_acl.specs.Access.{is_deny, grants}
 use Rattle.mq_acl.specs.Filled.{filled}
-use Rattle.mq_acl.specs.Mosquitto.{decision, is_asked, row_covers}
+use Rattle.mq_acl.specs.Mosquitto.{decided, decision, is_asked, known_user, mosquitto_allows}
+use Rattle.mq_acl.specs.Mosquitto.{row_covers, verdict}
 use Rattle.mq_acl.specs.Rows.{AclRow, Everyone}
-use Rattle.mq_acl.specs.RowsByOwner.{is_everyones}
+use Rattle.mq_acl.specs.RowsByOwner.{is_everyones, is_own}
+use Rattle.mq_acl.specs.Views.{access_view, row_view, row_views}
 use Rattle.mq_acl.specs.declared.access.Direction.{Direction}
+use Rattle.mq_acl.specs.declared.row.Row.{Row}
+use Rattle.mq_acl.proofs.AccessLemmas.{any_viewed, grants_only}
+use Rattle.mq_acl.proofs.RowsByOwnerLemmas.{any_kept}
 
 -- a row of a `pattern` line covers what its filter does, its marks replaced
 pub pattern_covers : (client : List ℕ) (user : Option (List ℕ)) (name : List ℕ) (row : AclRow)
@@ -23,9 +28,74 @@ pattern_covers client user name row e f =
     else row.filter)) (levels name)) e
     ∙ ap (λ b. b && matches (levels (filled client (unwrap_or user []) row.filter)) (levels name)) f)
 
--- what the rows decide where some before them granted it
-abbrev pub decided_after : List ℕ → Option (List ℕ) → List ℕ → Direction → Bool → List AclRow
-    → Option Bool
-decided_after client user name direction granted rows = decision
-    (list_any (λ row. row_covers client user name row && is_deny row.access) rows)
-    (granted || list_any (λ row. row_covers client user name row && grants direction row.access) rows)
+denied_kept : (keep covers deny : Bool) → (deny && (keep && covers)) ≡ (keep && (covers && deny))
+denied_kept true true true = refl
+denied_kept true true false = refl
+denied_kept true false true = refl
+denied_kept true false false = refl
+denied_kept false covers true = refl
+denied_kept false covers false = refl
+
+granted_kept : (keep covers grants other : Bool) → grants ≡ (grants && other)
+    → (other && (keep && (grants && covers))) ≡ (keep && (covers && grants))
+granted_kept k c g o e = ordered k c g o ∙ ap (λ b. k && (c && b)) (sym e)
+  where
+    ordered : (k c g o : Bool) → (o && (k && (g && c))) ≡ (k && (c && (g && o)))
+    ordered true true true true = refl
+    ordered true true true false = refl
+    ordered true true false true = refl
+    ordered true true false false = refl
+    ordered true false true true = refl
+    ordered true false true false = refl
+    ordered true false false true = refl
+    ordered true false false false = refl
+    ordered false c g true = refl
+    ordered false c g false = refl
+
+-- the rows of these that are kept decide as those of them that deny and those that grant
+pub verdict_of : (client : List ℕ) (user : Option (List ℕ)) (name : List ℕ) (direction : Direction)
+    (keep : AclRow → Bool) (rows : List AclRow) (denies granting : List Row)
+    → row_views denies ≡ filter keep (filter (λ row. is_deny row.access) rows)
+    → row_views granting ≡ filter keep (filter (λ row. not (is_deny row.access)) rows)
+    → decision (list_any (λ row. row_covers client user name (row_view row)) denies)
+    (list_any (λ row. grants direction (access_view row.access)
+    && row_covers client user name (row_view row)) granting)
+    ≡ verdict client user name direction (filter keep rows)
+verdict_of client user name direction keep rows denies granting d g =
+    (λ i. decision (any_viewed cov denies i) (any_viewed grant granting i))
+    ∙ (λ i. decision (list_any cov (d i)) (list_any grant (g i)))
+    ∙ (λ i. decision (denied i) (granted i))
+  where
+    cov : AclRow → Bool
+    cov row = row_covers client user name row
+
+    grant : AclRow → Bool
+    grant row = grants direction row.access && cov row
+
+    denied : list_any cov (filter keep (filter (λ row. is_deny row.access) rows))
+        ≡ list_any (λ row. cov row && is_deny row.access) (filter keep rows)
+    denied =
+        any_kept cov keep (filter (λ row. is_deny row.access) rows)
+        ∙ any_kept (λ row. keep row && cov row) (λ row. is_deny row.access) rows
+        ∙ (λ i. list_any (λ row. denied_kept (keep row) (cov row) (is_deny row.access) i) rows)
+        ∙ sym (any_kept (λ row. cov row && is_deny row.access) keep rows)
+
+    granted : list_any grant (filter keep (filter (λ row. not (is_deny row.access)) rows))
+        ≡ list_any (λ row. cov row && grants direction row.access) (filter keep rows)
+    granted =
+        any_kept grant keep (filter (λ row. not (is_deny row.access)) rows)
+        ∙ any_kept (λ row. keep row && grant row) (λ row. not (is_deny row.access)) rows
+        ∙ (λ i. list_any (λ row. granted_kept (keep row) (cov row) (grants direction row.access)
+        (not (is_deny row.access)) (grants_only direction row.access) i) rows)
+        ∙ sym (any_kept (λ row. cov row && grants direction row.access) keep rows)
+
+-- the client's own rows decide, and where none of them covers the name those for all clients
+pub allowed_in_turn : (client : List ℕ) (user known : Option (List ℕ)) (name : List ℕ)
+    (direction : Direction) (rows : List AclRow) (own everyone : Option Bool)
+    → known ≡ known_user user
+    → own ≡ verdict client known name direction (filter (λ row. is_own known row.who) rows)
+    → everyone ≡ verdict client known name direction (filter (λ row. is_everyones row.who) rows)
+    → unwrap_or (option_or own everyone) false ≡ mosquitto_allows rows client user name direction
+allowed_in_turn client user known name direction rows own everyone k o e =
+    (λ i. unwrap_or (option_or (o i) (e i)) false)
+    ∙ (λ i. unwrap_or (decided rows client (k i) name direction) false)

@@ -1,25 +1,34 @@
--- Rows by whom they are for.
-use Rattle.std.proofs.Common.{◌≡◌, ℕ, Bool, true, false, ◌&&◌, ◌||◌, if◌then◌else◌, List, [], ◌∷◌}
-use Rattle.std.proofs.Common.{Option, Some, None, refl, ap, sym, ◌∙◌}
+-- Rows by what they do, and by whom they are for.
+use Rattle.std.proofs.Common.{◌≡◌, ℕ, Bool, true, false, ◌&&◌, ◌||◌, if◌then◌else◌, List, []}
+use Rattle.std.proofs.Common.{◌∷◌, Option, Some, None, refl, ap, sym, ◌∙◌}
 use Rattle.std.specs.List.{filter, list_any}
-use Rattle.std.proofs.Math.Bool.{or_assoc}
-use Rattle.mq_topic.proofs.BoolLemmas.{or_swapped}
+use Rattle.mq_acl.specs.Access.{applies}
 use Rattle.mq_acl.specs.Rows.{Who, Anonymous, Named, Everyone, AclRow}
 use Rattle.mq_acl.specs.RowsByOwner.{is_own, is_everyones}
-use Rattle.mq_acl.specs.Access.{applies}
 
-or_both : (a b c : Bool) → (a || (b || c)) ≡ ((a || b) || (a || c))
-or_both true b c = refl
-or_both false b c = refl
+-- a test of what a filter keeps
+pub any_kept : {X : Type 0} (test keep : X → Bool) (xs : List X)
+    → list_any test (filter keep xs) ≡ list_any (λ x. keep x && test x) xs
+any_kept test keep [] = refl
+any_kept test keep (x ∷ xs) =
+    kept (keep x) ∙ ap (λ b. (keep x && test x) || b) (any_kept test keep xs)
+  where
+    kept : (b : Bool) → list_any test (if b then x ∷ filter keep xs else filter keep xs)
+        ≡ ((b && test x) || list_any test (filter keep xs))
+    kept true = refl
+    kept false = refl
 
--- a test is let through among all, or among one of two parts
-parted : (all own test a b : Bool) → (((all || own) && test) || (a || b))
-    ≡ ((if all then ((all || own) && test) || a else a)
-    || (if own then ((all || own) && test) || b else b))
-parted true true test a b = or_both test a b
-parted true false test a b = sym (or_assoc test a b)
-parted false true test a b = or_swapped test a b
-parted false false test a b = refl
+any_either : {X : Type 0} (p q : X → Bool) (xs : List X)
+    → (list_any p xs || list_any q xs) ≡ list_any (λ x. p x || q x) xs
+any_either p q [] = refl
+any_either p q (x ∷ xs) =
+    four (p x) (list_any p xs) (q x) (list_any q xs) ∙ ap (λ b. (p x || q x) || b) (any_either p q xs)
+  where
+    four : (a b c d : Bool) → ((a || b) || (c || d)) ≡ ((a || c) || (b || d))
+    four true b c d = refl
+    four false true true d = refl
+    four false true false d = refl
+    four false false c d = refl
 
 applies_is : (user : Option (List ℕ)) (who : Who)
     → applies user who ≡ (is_everyones who || is_own user who)
@@ -30,30 +39,22 @@ applies_is (Some user) (Named name) = refl
 applies_is None Everyone = refl
 applies_is (Some user) Everyone = refl
 
-any_if : (p : AclRow → Bool) (b : Bool) (row : AclRow) (rows : List AclRow)
-    → list_any p (if b then row ∷ rows else rows)
-    ≡ (if b then p row || list_any p rows else list_any p rows)
-any_if p true row rows = refl
-any_if p false row rows = refl
+one_of_two : (all own test : Bool) → ((all && test) || (own && test)) ≡ ((all || own) && test)
+one_of_two true true true = refl
+one_of_two true true false = refl
+one_of_two true false true = refl
+one_of_two true false false = refl
+one_of_two false own test = refl
 
--- a test that needs the row to apply is let through by a row for all, or by one for this user alone
+-- of the rows that apply one passes a test just where one for all clients does, or one for this user alone
 pub any_of_groups : (user : Option (List ℕ)) (test : AclRow → Bool) (rows : List AclRow)
-    → list_any (λ row. applies user row.who && test row) rows
-    ≡ (list_any (λ row. applies user row.who && test row)
-    (filter (λ row. is_everyones row.who) rows)
-    || list_any (λ row. applies user row.who && test row)
-    (filter (λ row. is_own user row.who) rows))
-any_of_groups user test [] = refl
-any_of_groups user test (row ∷ rows) =
-    let p : AclRow → Bool = (λ r. applies user r.who && test r) in
-    let all = filter (λ r. is_everyones r.who) rows in
-    let own = filter (λ r. is_own user r.who) rows in
-    let e = is_everyones row.who in
-    let o = is_own user row.who in
-    ap (λ b. p row || b) (any_of_groups user test rows)
-    ∙ ap (λ a. (a && test row) || (list_any p all || list_any p own)) (applies_is user row.who)
-    ∙ parted e o (test row) (list_any p all) (list_any p own)
-    ∙ ap (λ a. (if e then (a && test row) || list_any p all else list_any p all)
-    || (if o then (a && test row) || list_any p own else list_any p own))
-    (sym (applies_is user row.who))
-    ∙ (λ i. sym (any_if p e row all) i || sym (any_if p o row own) i)
+    → (list_any test (filter (λ row. is_everyones row.who) rows)
+    || list_any test (filter (λ row. is_own user row.who) rows))
+    ≡ list_any (λ row. applies user row.who && test row) rows
+any_of_groups user test rows =
+    (λ i. any_kept test (λ row. is_everyones row.who) rows i
+    || any_kept test (λ row. is_own user row.who) rows i)
+    ∙ any_either (λ row. is_everyones row.who && test row) (λ row. is_own user row.who && test row)
+    rows
+    ∙ (λ i. list_any (λ row. (one_of_two (is_everyones row.who) (is_own user row.who) (test row)
+    ∙ ap (λ a. a && test row) (sym (applies_is user row.who))) i) rows)

@@ -3,7 +3,9 @@ pub mod Lines
 pub mod Rows
 pub mod Views
 pub mod Access
+pub mod Starts
 pub mod RowsByOwner
+pub mod RowsByAccess
 pub mod Filled
 pub mod Mosquitto
 pub mod MosquittoLines

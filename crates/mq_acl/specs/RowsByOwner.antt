@@ -1,14 +1,12 @@
 -- The rows of a list by whom they are for.
-use Rattle.std.specs.Prelude.{◌≡◌, ℕ, Bool, true, false, ◌&&◌, ◌||◌, if◌then◌else◌, List, []}
+use Rattle.std.specs.Prelude.{◌≡◌, ℕ, Bool, true, false, List, []}
 use Rattle.std.specs.Prelude.{Option, Some, None}
-use Rattle.std.specs.List.{filter, list_any}
+use Rattle.std.specs.List.{filter}
 use Rattle.std.specs.Option.{option_map_or}
 use Rattle.std.specs.BTreeMap.{get_by_text}
 use Rattle.std.specs.Str.{bytes_eq}
 use Rattle.mq_acl.specs.Rows.{Who, Anonymous, Named, Everyone, AclRow}
 use Rattle.mq_acl.specs.Views.{row_views}
-use Rattle.mq_acl.specs.Access.{concerns, is_deny, grants}
-use Rattle.mq_acl.specs.declared.access.Direction.{Direction}
 use Rattle.mq_acl.specs.declared.rows_by_owner.RowsByOwner.{RowsByOwner}
 
 abbrev pub is_everyones : Who → Bool
@@ -37,10 +35,3 @@ pub record IsGrouped (rows : List AclRow) (by_owner : RowsByOwner) : Type 0 wher
   pub all : everyones by_owner ≡ filter (λ row. is_everyones row.who) rows
   pub own : (user : Option (List ℕ)) → own_rows user by_owner
       ≡ filter (λ row. is_own user row.who) rows
-
--- nothing where a row that concerns the name denies; else whether one grants, or some before them did
-abbrev pub judged : List ℕ → Option (List ℕ) → List ℕ → Direction → Bool → List AclRow → Option Bool
-judged client user name direction granted rows =
-    if list_any (λ row. concerns client user name row && is_deny row.access) rows then None
-    else Some (granted || list_any (λ row. concerns client user name row
-    && grants direction row.access) rows)

@@ -1,3 +1,7 @@
+ghost use Rattle.std.specs.Prelude.{◌≡◌};
+ghost use Rattle.mq_acl.specs.Access.{is_deny, grants};
+ghost use Rattle.mq_acl.specs.Views.{access_view};
+
 /// What a row grants, or that it denies (mosquitto.conf(5), `acl_file`).
 #[derive(Clone, Copy, Debug, PartialEq, Eq)]
 pub enum Access {
@@ -19,4 +23,21 @@ pub enum Direction {
     Reading,
     /// The client writes.
     Writing,
+}
+
+/// Whether it denies.
+pub fn is_deny(access: Access) -> bool
+    ensures { result ≡ is_deny (access_view access) }
+{
+    matches!(access, Access::Deny)
+}
+
+/// Whether it grants this direction.
+pub fn grants(direction: Direction, access: Access) -> bool
+    ensures { result ≡ grants direction (access_view access) }
+{
+    match direction {
+        Direction::Reading => matches!(access, Access::Read | Access::ReadWrite),
+        Direction::Writing => matches!(access, Access::Write | Access::ReadWrite),
+    }
 }

@@ -11,7 +11,7 @@ use crate::fault::{AclFault, AclKind};
 use crate::mosquitto::mosquitto_allows;
 use crate::read::read_rows_by;
 use crate::row::Row;
-use crate::rows_by_owner::RowsByOwner;
+use crate::rows_by_access::RowsByAccess;
 use crate::rules::Rules;
 use mq_topic::TopicName;
 use std::alloc::{AllocError, Global};
@@ -22,7 +22,7 @@ use std::snapshot::Snapshot;
 /// An access list: rows that grant topics to clients or deny them (mosquitto.conf(5), `acl_file`).
 pub struct Acl {
     rules: Rules,
-    by_owner: RowsByOwner,
+    by_access: RowsByAccess,
     /// The rows as they stand in the text, for contracts alone.
     order: Snapshot<Vec<Row>>,
 }
@@ -32,7 +32,7 @@ impl Drop for Acl {
     fn drop(self) {
         let Acl {
             rules: _,
-            by_owner: _,
+            by_access: _,
             order: _,
         } = self;
     }
@@ -44,11 +44,11 @@ impl Model for Acl {
 
     ghost Value = { AccessList };
 
-    ghost use Rattle.mq_acl.specs.RowsByOwner.{IsGrouped};
+    ghost use Rattle.mq_acl.specs.RowsByAccess.{IsSplit};
 
     ghost view = { λ acl. record { rules = acl.rules; rows = row_views acl.order.value.items } };
 
-    ghost invariant = { λ acl. IsGrouped (row_views acl.order.value.items) acl.by_owner };
+    ghost invariant = { λ acl. IsSplit (row_views acl.order.value.items) acl.by_access };
 }
 
 impl Acl {
@@ -95,10 +95,10 @@ impl Acl {
         ensures { IfOk result (λ acl. acl ≡ record { rules = rules; rows = row_views rows.items }) }
     {
         let order = Snapshot::of(&rows);
-        let by_owner = RowsByOwner::of(alloc, rows)?;
+        let by_access = RowsByAccess::of(alloc, rows)?;
         Ok(Acl {
             rules,
-            by_owner,
+            by_access,
             order,
         })
     }
@@ -116,8 +116,8 @@ impl Acl {
             direction }
     {
         match self.rules {
-            Rules::Own => rows_allow(&self.by_owner, client, user, name, direction),
-            Rules::Mosquitto => mosquitto_allows(&self.by_owner, client, user, name, direction),
+            Rules::Own => rows_allow(&self.by_access, client, user, name, direction),
+            Rules::Mosquitto => mosquitto_allows(&self.by_access, client, user, name, direction),
         }
     }
 
@@ -142,6 +142,6 @@ impl Acl {
 
 impl fmt::Debug for Acl {
     fn fmt<W: fmt::Write>(&self, f: &mut fmt::Formatter<W>) -> fmt::Result {
-        fmt::Debug::fmt(&self.by_owner, f)
+        fmt::Debug::fmt(&self.by_access, f)
     }
 }

@@ -1,15 +1,19 @@
 ghost use Rattle.std.specs.Prelude.{◌≡◌, ◌&&◌, ◌||◌, not, List};
+ghost use Rattle.std.specs.List.{list_any};
 ghost use Rattle.std.specs.Option.{option_copied};
 ghost use Rattle.mq_acl.specs.Access.{row_level_matches, begins_with_dollar, covers, applies};
-ghost use Rattle.mq_acl.specs.Access.{is_deny, grants, concerns, rows_allow};
+ghost use Rattle.mq_acl.specs.Access.{grants, concerns, rows_allow};
 ghost use Rattle.mq_acl.specs.Rows.{AclRow};
-ghost use Rattle.mq_acl.specs.RowsByOwner.{IsGrouped, judged};
+ghost use Rattle.mq_acl.specs.RowsByAccess.{IsSplit};
+ghost use Rattle.mq_acl.specs.Starts.{is_special, starts_apart};
+ghost use Rattle.mq_acl.specs.RowsByOwner.{IsGrouped};
 ghost use Rattle.mq_topic.specs.Levels.{levels};
 ghost use Rattle.mq_topic.specs.Matching.{levels_match_by};
-ghost use Rattle.mq_acl.specs.Views.{access_view, owner_view, row_view, row_views};
+ghost use Rattle.mq_acl.specs.Views.{access_view, owner_view, row_view};
 
-use crate::access::{Access, Direction};
+use crate::access::{Direction, grants};
 use crate::row::{Owner, Row};
+use crate::rows_by_access::RowsByAccess;
 use crate::rows_by_owner::RowsByOwner;
 use mq_topic::{LevelTest, LevelText, TopicName, levels_match};
 
@@ -41,6 +45,27 @@ fn dollar_fits(filter: &str, name: &str) -> bool
     !name.starts_with('$') || filter.starts_with('$')
 }
 
+// A byte that a wildcard or a mark begins with.
+fn is_special(byte: u8) -> bool
+    ensures { result ≡ is_special byte }
+{
+    byte == b'#' || byte == b'+' || byte == b'%'
+}
+
+// Whether the name differs from what the filter has before such a byte: most rows of a long list
+// are passed over so.
+fn starts_apart(filter: &[u8], name: &[u8]) -> bool
+    ensures { result ≡ starts_apart filter.now name.now }
+{
+    let (Some((wanted, filter_rest)), Some((byte, name_rest))) = (
+        filter.split_first(),
+        name.split_first(),
+    ) else {
+        return false;
+    };
+    !is_special(*wanted) && (wanted != byte || starts_apart(filter_rest, name_rest))
+}
+
 fn covers(row: &Row, client: &str, user: Option<&str>, name: &TopicName) -> bool
     ensures { result ≡ covers client.now (option_copied user.entry) name.now (row_view row.now) }
 {
@@ -51,6 +76,9 @@ fn covers(row: &Row, client: &str, user: Option<&str>, name: &TopicName) -> bool
     };
     let filter = row.filter.text();
     let name = name.text();
+    if starts_apart(filter.as_bytes(), name.as_bytes()) {
+        return false;
+    }
     dollar_fits(filter, name) && levels_match(&levels, filter, name)
 }
 
@@ -73,64 +101,65 @@ pub fn concerns(row: &Row, client: &str, user: Option<&str>, name: &TopicName) -
     applies(user, &row.owner) && covers(row, client, user, name)
 }
 
-/// Whether it denies.
-pub fn is_deny(access: Access) -> bool
-    ensures { result ≡ is_deny (access_view access) }
+// Whether one of the rows covers the name for this client.
+fn any_covers(rows: &[Row], client: &str, user: Option<&str>, name: &TopicName) -> bool
+    ensures { result ≡ list_any (λ row. covers client.now (option_copied user.entry) name.now
+        (row_view row)) rows.now }
 {
-    matches!(access, Access::Deny)
+    rows.iter().any(|row| covers(row, client, user, name))
 }
 
-/// Whether it grants this direction.
-pub fn grants(direction: Direction, access: Access) -> bool
-    ensures { result ≡ grants direction (access_view access) }
-{
-    match direction {
-        Direction::Reading => matches!(access, Access::Read | Access::ReadWrite),
-        Direction::Writing => matches!(access, Access::Write | Access::ReadWrite),
-    }
-}
-
-// Nothing where a row that concerns the name denies; else whether one grants, or some before them did.
-fn judge(
+// Whether one of them grants the name to this client.
+fn any_grants(
     rows: &[Row],
-    granted: bool,
-    client: &str,
-    user: Option<&str>,
-    name: &TopicName,
-    direction: Direction,
-) -> Option<bool>
-    ensures { result ≡ judged client.now (option_copied user.entry) name.now direction granted
-        (row_views rows.now) }
-{
-    let mut granted = granted;
-    for row in rows {
-        if !concerns(row, client, user, name) {
-            continue;
-        }
-        if is_deny(row.access) {
-            return None;
-        }
-        granted |= grants(direction, row.access);
-    }
-    Some(granted)
-}
-
-// Whether no row that concerns the name denies, and one grants, of the rows for all clients and of
-// those for this user alone.
-pub(crate) fn rows_allow(
-    by_owner: &RowsByOwner,
     client: &str,
     user: Option<&str>,
     name: &TopicName,
     direction: Direction,
 ) -> bool
-    ensures { (rows : List AclRow) → IsGrouped rows by_owner.now
+    ensures { result ≡ list_any (λ row. grants direction (access_view row.access)
+        && covers client.now (option_copied user.entry) name.now (row_view row)) rows.now }
+{
+    rows.iter().any(|row| grants(direction, row.access) && covers(row, client, user, name))
+}
+
+// Whether one of the rows for all clients, or for this user alone, covers the name.
+fn is_denied(denies: &RowsByOwner, client: &str, user: Option<&str>, name: &TopicName) -> bool
+    ensures { (rows : List AclRow) → IsGrouped rows denies.now
+        → result ≡ list_any (concerns client.now (option_copied user.entry) name.now) rows }
+{
+    any_covers(denies.everyone(), client, user, name)
+        || any_covers(denies.own(user), client, user, name)
+}
+
+// Whether one of them grants the name. The first that does decides.
+fn is_granted(
+    granting: &RowsByOwner,
+    client: &str,
+    user: Option<&str>,
+    name: &TopicName,
+    direction: Direction,
+) -> bool
+    ensures { (rows : List AclRow) → IsGrouped rows granting.now
+        → result ≡ list_any (λ row. applies (option_copied user.entry) row.who
+        && (grants direction row.access
+        && covers client.now (option_copied user.entry) name.now row)) rows }
+{
+    any_grants(granting.everyone(), client, user, name, direction)
+        || any_grants(granting.own(user), client, user, name, direction)
+}
+
+// Whether no row that concerns the name denies, and one grants.
+pub(crate) fn rows_allow(
+    by_access: &RowsByAccess,
+    client: &str,
+    user: Option<&str>,
+    name: &TopicName,
+    direction: Direction,
+) -> bool
+    ensures { (rows : List AclRow) → IsSplit rows by_access.now
         → result ≡ rows_allow rows client.now (option_copied user.entry) name.now direction }
 {
-    match judge(by_owner.everyone(), false, client, user, name, direction) {
-        None => false,
-        Some(granted) => {
-            judge(by_owner.own(user), granted, client, user, name, direction).unwrap_or(false)
-        }
-    }
+    !is_denied(&by_access.denies, client, user, name)
+        && is_granted(&by_access.grants, client, user, name, direction)
 }

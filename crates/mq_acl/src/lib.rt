@@ -12,13 +12,14 @@ mod mosquitto_lines;
 mod read;
 mod rights;
 mod row;
+mod rows_by_access;
 mod rows_by_owner;
 mod rules;
 mod words;
 
-pub use access::{Access, Direction};
+pub use access::{Access, Direction, grants, is_deny};
 pub use acl::Acl;
-pub use check::{applies, concerns, grants, is_deny};
+pub use check::{applies, concerns};
 pub use entry::has_whole_marks;
 pub use fault::{AclFault, AclKind};
 pub use mosquitto::{concerns_by, user_by};

@@ -1,5 +1,5 @@
 //! The rows of an access list, by whom they are for.
-ghost use Rattle.std.specs.Prelude.{◌≡◌, ℕ, [], ◌++◌, ◌∷◌, List, IfOk, OnOk, if◌then◌else◌};
+ghost use Rattle.std.specs.Prelude.{◌≡◌, ℕ, [], ◌++◌, ◌∷◌, List, OnOk, if◌then◌else◌};
 ghost use Rattle.std.specs.Prelude.{string_bytes};
 ghost use Rattle.std.specs.Str.{bytes_eq};
 ghost use Rattle.std.specs.Option.{option_copied, option_map_or};
@@ -47,7 +47,7 @@ fn add_named(
 }
 
 impl RowsByOwner {
-    fn new(alloc: Global) -> RowsByOwner
+    pub(crate) fn new(alloc: Global) -> RowsByOwner
         ensures { IsGrouped [] result }
     {
         RowsByOwner {
@@ -57,7 +57,7 @@ impl RowsByOwner {
         }
     }
 
-    fn add(&mut self, row: Row) -> Result<(), AllocError>
+    pub(crate) fn add(&mut self, row: Row) -> Result<(), AllocError>
         ensures { OnOk result ((rows : List AclRow) → IsGrouped rows self.old
             → IsGrouped (rows ++ (row_view row ∷ [])) self.new) }
     {
@@ -70,17 +70,6 @@ impl RowsByOwner {
             }
         }
         Ok(())
-    }
-
-    /// The by_owner of these rows.
-    pub(crate) fn of(alloc: Global, rows: Vec<Row>) -> Result<RowsByOwner, AllocError>
-        ensures { IfOk result (λ by_owner. IsGrouped (row_views rows.items) by_owner) }
-    {
-        let mut by_owner = RowsByOwner::new(alloc);
-        for row in rows {
-            by_owner.add(row)?;
-        }
-        Ok(by_owner)
     }
 
     /// The rows for all clients.

@@ -6,7 +6,7 @@ use Rattle.std.proofs.Common.{add-one, drop-cons, arith, eqb}
 use Rattle.std.specs.Prelude.{IfNone, IfSome}
 use Rattle.std.specs.List.{filter, find, list_all, list_any}
 use Rattle.std.specs.Option.{option_map}
-use Rattle.std.proofs.Math.Bool.{and-false, or_comm}
+use Rattle.std.proofs.Math.Bool.{and_comm, or_comm}
 use Rattle.std.proofs.lemmas.Bool.{and_from, and_parts}
 use Rattle.std.proofs.lemmas.Bool.Decides.{Decides-eqb}
 use Rattle.std.proofs.lemmas.List.{length-map, map-append}
@@ -16,11 +16,11 @@ use Rattle.std.proofs.lemmas.List.Folds.{Any-from_list_any, list_all_at, list_an
 use Rattle.std.proofs.lemmas.List.Folds.{list_any_at}
 use Rattle.mq_acl.specs.AccessLists.{AccessList, allow_by}
 use Rattle.mq_acl.specs.declared.rules.Rules.TheVariants.{Own}
-use Rattle.mq_acl.specs.Access.{concerns, covers, grants, is_deny}
+use Rattle.mq_acl.specs.Access.{applies, concerns, covers, grants, is_deny}
 use Rattle.mq_acl.specs.Rows.{AclRow}
 use Rattle.mq_acl.specs.RowsByOwner.{is_everyones, is_own}
 use Rattle.mq_acl.specs.declared.access.Direction.TheVariants.{Reading}
-use Rattle.mq_acl.proofs.RowsByOwnerLemmas.{any_of_groups}
+use Rattle.mq_acl.proofs.RowsByOwnerLemmas.{any_kept, any_of_groups}
 use Rattle.mq_witness.specs.Decided.{decides}
 use Rattle.mq_witness.specs.Limits.{has_short_levels, is_short_row, long_line, short_who}
 use Rattle.mq_witness.specs.Rows.{lent_rows}
@@ -56,18 +56,8 @@ passed-more p rows i d low =
 -- those that pass a test and concern it are those that concern it, of those that pass
 pub any-tested : (p q : AclRow → Bool) (rows : List AclRow)
     → list_any (λ row. p row && q row) rows ≡ list_any p (filter q rows)
-any-tested p q [] = refl
-any-tested p q (row ∷ rows) =
-    (elim (q row) as (λ b. ((p row && b) || list_any (λ r. p r && q r) rows)
-    ≡ list_any p (cond b (row ∷ filter q rows) (filter q rows))) [
-      | true ↦ (λ i. and_true (p row) i || any-tested p q rows i)
-      | false ↦ ap (λ b. b || list_any (λ r. p r && q r) rows) (and-false (p row))
-          ∙ any-tested p q rows
-    ])
-  where
-    and_true : (b : Bool) → (b && true) ≡ b
-    and_true true = refl
-    and_true false = refl
+any-tested p q rows =
+    (λ i. list_any (λ row. and_comm (p row) (q row) i) rows) ∙ sym (any_kept p q rows)
 
 -- whether the client may read it, by the rows that concern it
 pub allowed-is : (rows : List AclRow) (client : List ℕ) (user : Option (List ℕ)) (name : List ℕ)
@@ -90,7 +80,12 @@ any-grouped client user name rows everyone own all its =
     || list_any (concerns client user name) (all i))
     ∙ or_comm (list_any (concerns client user name) (filter (λ row. is_own user row.who) rows))
     (list_any (concerns client user name) (filter (λ row. is_everyones row.who) rows))
-    ∙ sym (any_of_groups user (covers client user name) rows)
+    ∙ any_of_groups user (concerns client user name) rows
+    ∙ (λ i. list_any (λ row. twice (applies user row.who) (covers client user name row) i) rows)
+  where
+    twice : (a c : Bool) → (a && (a && c)) ≡ (a && c)
+    twice true c = refl
+    twice false c = refl
 
 some-at : {X : Type 0} (p : X → Bool) (xs : List X) (x : X) → Contains xs x → p x ≡ true
     → list_any p xs ≡ true

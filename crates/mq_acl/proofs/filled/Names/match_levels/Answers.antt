@@ -1,4 +1,4 @@
-use Rattle.std.proofs.Common.{◌≡◌, ◌∙◌, ◌∷◌, ap, sym, false}
+use Rattle.std.proofs.Common.{◌≡◌, ◌∙◌, ◌∷◌, ap, sym}
 use Rattle.mq_topic.specs.Levels.{levels, levels_left}
 use Rattle.mq_topic.specs.Matching.{level_matches, levels_match_by}
 use Rattle.mq_topic.specs.Texts.{wildcards_fit}

@@ -1,0 +1,60 @@
+//! The rows of an access list: those that deny stand in front.
+ghost use Rattle.std.specs.Prelude.{◌≡◌, [], ◌++◌, ◌∷◌, List, IfOk, OnOk};
+ghost use Rattle.mq_acl.specs.Rows.{AclRow};
+ghost use Rattle.mq_acl.specs.Views.{row_view, row_views};
+ghost use Rattle.mq_acl.specs.RowsByAccess.{IsSplit};
+
+use crate::access::is_deny;
+use crate::row::Row;
+use crate::rows_by_owner::RowsByOwner;
+use std::alloc::{AllocError, Global};
+
+/// The rows that deny, and those that grant, each by whom they are for.
+#[derive(Debug)]
+pub(crate) struct RowsByAccess {
+    pub(crate) denies: RowsByOwner,
+    pub(crate) grants: RowsByOwner,
+}
+
+// Opaque to callers' proofs: one step, and not one for each field (docs/explanation/gate.md).
+impl Drop for RowsByAccess {
+    fn drop(self) {
+        let RowsByAccess {
+            denies: _,
+            grants: _,
+        } = self;
+    }
+}
+
+impl RowsByAccess {
+    fn new(alloc: Global) -> RowsByAccess
+        ensures { IsSplit [] result }
+    {
+        RowsByAccess {
+            denies: RowsByOwner::new(alloc),
+            grants: RowsByOwner::new(alloc),
+        }
+    }
+
+    fn add(&mut self, row: Row) -> Result<(), AllocError>
+        ensures { OnOk result ((rows : List AclRow) → IsSplit rows self.old
+            → IsSplit (rows ++ (row_view row ∷ [])) self.new) }
+    {
+        if is_deny(row.access) {
+            self.denies.add(row)
+        } else {
+            self.grants.add(row)
+        }
+    }
+
+    /// These rows.
+    pub(crate) fn of(alloc: Global, rows: Vec<Row>) -> Result<RowsByAccess, AllocError>
+        ensures { IfOk result (λ by_access. IsSplit (row_views rows.items) by_access) }
+    {
+        let mut by_access = RowsByAccess::new(alloc);
+        for row in rows {
+            by_access.add(row)?;
+        }
+        Ok(by_access)
+    }
+}
