@@ -1,7 +1,7 @@
 #!/usr/bin/env python3
 """Tells what one more command costs beside few and beside many things that it has nothing to do
 with, and the bytes of each such thing: growth.py MANY PROGRAM [YARDSTICK]. Instructions need
-valgrind; without it the bytes alone are told."""
+valgrind; without it the bytes alone are shown."""
 import json
 import shutil
 import sys

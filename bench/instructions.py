@@ -79,9 +79,9 @@ def main():
                 file.flush()
             counts = [
                 counted(program, lines, first, file.name if rows else None) for program in programs]
-        told = "".join(
+        shown = "".join(
             f", the yardstick {count:,}: ratio {counts[0] / count:.2f}" for count in counts[1:])
-        print(f"{label}: {counts[0]:,}{told}", flush=True)
+        print(f"{label}: {counts[0]:,}{shown}", flush=True)
 
 
 main()

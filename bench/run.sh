@@ -25,7 +25,7 @@ rounds() { # SCRIPT ARGUMENTS..: user seconds of the program, and of the yardsti
     done
 }
 
-# A program that waits for more of its script, on $feed. What the kernel tells of it then is its own: what a parent is told
+# A program that waits for more of its script, on $feed. What the kernel shows of it then is its own: what a parent is shown
 # of a child begins with the parent's memory.
 begin() { # PROGRAM ARGUMENTS..
     mkfifo "$scratch/pipe"

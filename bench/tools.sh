@@ -21,11 +21,11 @@ import resource, subprocess, sys, time
 name, read, written, *command = sys.argv[1:]
 lines = sum(1 for _ in open(read, "rb"))
 began = time.monotonic()
-with open(written, "wb") as out, open(written + ".told", "wb") as told:
-    status = subprocess.run(command, stdout=out, stderr=told).returncode
+with open(written, "wb") as out, open(written + ".shown", "wb") as shown:
+    status = subprocess.run(command, stdout=out, stderr=shown).returncode
 seconds = time.monotonic() - began
 if status > 1:
-    sys.exit(f"{name}: status {status}: {open(written + '.told').read()[:500]}")
+    sys.exit(f"{name}: status {status}: {open(written + '.shown').read()[:500]}")
 peak = resource.getrusage(resource.RUSAGE_CHILDREN).ru_maxrss / 1024
 print(f"| `{name}` | {lines:,} | {seconds:,.0f} | {lines / seconds:,.0f} | {peak:,.0f} |", flush=True)
 END

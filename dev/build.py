@@ -3,7 +3,7 @@
 
 The toolchain's `rt ci` proves the crates side by side, over a copy that has what the programs stand
 on and nothing more: no must-fail edits and no crate of tests. A line a crate shows how far it is,
-and how long is left where an earlier run on this machine tells. A crate that fails ends the run,
+and how long is left where an earlier run on this machine shows. A crate that fails ends the run,
 with the end of its log. The toolchain keeps what is proved, so that a run after one that was
 stopped goes on where that was.
 """

@@ -23,7 +23,7 @@ ready="application:ensure_all_started(ejabberd), ejabberd_auth:try_register(<<\"
 
 begin() {
     rm -rf "$work/spool" "$work/ready"
-    timeout 120 erl -noinput -mnesia dir "\"$work/spool\"" -s ejabberd -eval "$ready" > "$work/told" 2>&1 &
+    timeout 120 erl -noinput -mnesia dir "\"$work/spool\"" -s ejabberd -eval "$ready" > "$work/shown" 2>&1 &
     broker=$!
     await test -f "$work/ready"
 }

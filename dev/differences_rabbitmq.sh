@@ -21,13 +21,13 @@ export RABBITMQ_MNESIA_BASE="$work/spool" RABBITMQ_LOG_BASE="$work/log" RABBITMQ
 export RABBITMQ_DIST_PORT=$((listening + 1)) ERL_EPMD_PORT=$((listening + 2)) ERL_EPMD_ADDRESS=127.0.0.1
 
 begin() {
-    rm -rf "$work/spool" "$work/told"
+    rm -rf "$work/spool" "$work/shown"
     # shellcheck disable=SC2016
-    ${RABBITMQ_IN:-env} sh -c 'exec /usr/lib/rabbitmq/lib/rabbitmq_server-*/sbin/rabbitmq-server' > "$work/told" 2>&1 &
+    ${RABBITMQ_IN:-env} sh -c 'exec /usr/lib/rabbitmq/lib/rabbitmq_server-*/sbin/rabbitmq-server' > "$work/shown" 2>&1 &
     broker=$!
-    await grep -qs 'Starting broker... completed' "$work/told"
+    await grep -qs 'Starting broker... completed' "$work/shown"
 }
 
 compare_each "$listening" "" "$@"
-${RABBITMQ_IN:-env} epmd -kill > "$work/told" 2>&1 || true
+${RABBITMQ_IN:-env} epmd -kill > "$work/shown" 2>&1 || true
 exit $status

@@ -51,8 +51,9 @@ def output(world, script):
     lines = script.split(b"\n")
     if lines[-1] == b"":
         lines.pop()
-    told = [answered(world, line, number) for number, line in enumerate(lines, 1)]
-    return b"".join(text for text, _ in told), 1 if any(is_refused for _, is_refused in told) else 0
+    shown = [answered(world, line, number) for number, line in enumerate(lines, 1)]
+    has_refusal = any(is_refused for _, is_refused in shown)
+    return b"".join(text for text, _ in shown), 1 if has_refusal else 0
 
 
 def run(words, script, folder="."):

@@ -120,7 +120,7 @@ ODD_SCRIPT = """\
 {"do":"subscribe","client":"","filter":"a"}
 """
 
-# What is told of lines by lint: their text, and what is told.
+# What is shown of lines by lint: their text, and what is shown.
 REMARKED = """\
 topic rw a
 pattern read a
@@ -148,7 +148,7 @@ topic deny c/d
 topic read c/d
 """
 
-# Lists that are refused: their text, and what is told of the first faulty line.
+# Lists that are refused: their text, and what is shown of the first faulty line.
 FAULTY = [
     ("topic rw a\n", '1: unknown access "rw": expected read, write, readwrite or deny'),
     ("\ntopics read a\n", '2: unknown keyword "topics": expected topic, pattern or user'),
@@ -168,7 +168,7 @@ NO_TEXTS = [(b"topic read \xe9\n", 1), (b"topic read \xc3\xa9\n\ntopic read \xc3
 NO_FILE, A_FOLDER = "No such file or directory (os error 2)", "Is a directory (os error 21)"
 TWICE = "error: standard input can be only one of the files: - stands more than once"
 
-# Words that are not understood, and a part of what is told.
+# Words that are not understood, and a part of what is shown.
 MISUSED = [
     ([], "requires a subcommand"),
     (["compare", "current.acl"], "<NEW>"),
@@ -284,22 +284,22 @@ def faults_of_remarks(folder):
         yield f"lint: status {done.returncode}:\n{done.stdout}{done.stderr}"
     pathlib.Path(folder, "a.acl").write_text(NEEDLESS)
     done = run(["lint", "--json", "a.acl"], folder)
-    told = [(each["line"], each["words"]) for each in map(json.loads, done.stdout.splitlines())]
+    shown = [(each["line"], each["words"]) for each in map(json.loads, done.stdout.splitlines())]
     needless = "needless: without it the list allows the same"
     wanted = [(2, needless + ", because of line 1"), (4, needless + ", because of line 3"),
               (5, needless + ", because of line 3")]
-    if (done.returncode, [each for each in told if each[0] in (2, 4, 5)]) != (1, wanted):
-        yield f"lint: status {done.returncode}: {told}"
+    if (done.returncode, [each for each in shown if each[0] in (2, 4, 5)]) != (1, wanted):
+        yield f"lint: status {done.returncode}: {shown}"
 
 
 def faults_of_refusals(folder):
-    for text, told in FAULTY:
+    for text, shown in FAULTY:
         pathlib.Path(folder, "a.acl").write_text(text)
         for words in (["compare", "a.acl", "a.acl"], ["why", "a.acl", "c", "t"]):
             if len(text) > 300 and words[0] == "why":
                 continue
             done = run(words, folder)
-            if (done.returncode, done.stdout, done.stderr) != (2, "", f"a.acl:{told}\n"):
+            if (done.returncode, done.stdout, done.stderr) != (2, "", f"a.acl:{shown}\n"):
                 yield (f"{' '.join(words)} of {text[:40]!r}: status {done.returncode}: "
                        f"{done.stdout}{done.stderr}")
     for text, line in NO_TEXTS:
@@ -307,9 +307,9 @@ def faults_of_refusals(folder):
         done = run(["compare", "latin.acl", "latin.acl"], folder)
         if (done.returncode, done.stderr) != (2, f"latin.acl:{line}: not UTF-8\n"):
             yield f"{text}: status {done.returncode}: {done.stderr}"
-    for words, told in MISUSED:
+    for words, shown in MISUSED:
         done = run(words, EXAMPLE)
-        if done.returncode != 2 or done.stdout or told not in done.stderr:
+        if done.returncode != 2 or done.stdout or shown not in done.stderr:
             yield f"{' '.join(words)}: status {done.returncode}: {done.stdout}{done.stderr}"
     for words in (["--help"], ["help"], ["compare", "--help"], ["help", "why"]):
         done = run(words, EXAMPLE)
@@ -347,10 +347,10 @@ def faults_of_odd_scripts(folder):
          f"s.jsonl:2  c  no user name  {'b' * 301}\n"
          "1 of 1 subscriptions can receive nothing\n", ""),
     ]
-    for script, status, told, failed in cases:
+    for script, status, shown, failed in cases:
         pathlib.Path(folder, "s.jsonl").write_text(script, encoding="utf-8")
         done = run(["reach", "a.acl", "--script", "s.jsonl"], folder)
-        if (done.returncode, done.stdout, done.stderr) != (status, told, failed):
+        if (done.returncode, done.stdout, done.stderr) != (status, shown, failed):
             yield (f"reach --script of {script[:60]!r}: status {done.returncode}: "
                    f"{done.stdout}{done.stderr}")
 
@@ -364,9 +364,9 @@ def faults_of_logs(folder):
                  "2026-11-27 10:00:00"]:
         pathlib.Path(folder, "s.log").write_text(text, encoding="utf-8")
         done = run(["reach", "a.acl", "--script", "s.log"], folder)
-        told = (no_command("s.log", text).rstrip()
-                + "; it looks like a log: see mqroute-log-to-script(1)\n")
-        if (done.returncode, done.stdout, done.stderr) != (2, "", told):
+        shown = (no_command("s.log", text).rstrip()
+                 + "; it looks like a log: see mqroute-log-to-script(1)\n")
+        if (done.returncode, done.stdout, done.stderr) != (2, "", shown):
             yield (f"reach --script of {text[:60]!r}: status {done.returncode}: "
                    f"{done.stdout}{done.stderr}")
 

@@ -69,22 +69,22 @@ def whom(rows, user):
     return user if user is None or user in {row.user for row in rows} else "*"
 
 
-def faults_of_permission(rules, rows, asked, told):
+def faults_of_permission(rules, rows, asked, shown):
     """What is wrong with one that is listed."""
-    for each, may in ((told, True), *((other, False) for other in told["not"])):
+    for each, may in ((shown, True), *((other, False) for other in shown["not"])):
         client, user, topic = each["client"], each["user"], each["topic"]
-        row, _ = deciding(rules, rows, client, user, topic, told["access"])
+        row, _ = deciding(rules, rows, client, user, topic, shown["access"])
         if (not rules.covers(asked, client, user, topic)
-                or allowed(rules, rows, client, user, topic, told["access"]) != may
+                or allowed(rules, rows, client, user, topic, shown["access"]) != may
                 or (each["line"] and each["line"]["line"]) != number_of(row)
-                or whom(rows, user) != whom(rows, told["user"])):
+                or whom(rows, user) != whom(rows, shown["user"])):
             yield f"who: {each} isn't so, by {row}"
 
 
-def faults_of_missing(rules, rows, asked, told, asked_about):
+def faults_of_missing(rules, rows, asked, shown, asked_about):
     """What is allowed and not listed, or listed as every topic though one isn't allowed."""
-    listed = {(whom(rows, each["user"]), each["access"]) for each in told}
-    whole = {(whom(rows, each["user"]), each["access"]) for each in told if each["every"]}
+    listed = {(whom(rows, each["user"]), each["access"]) for each in shown}
+    whole = {(whom(rows, each["user"]), each["access"]) for each in shown if each["every"]}
     for client, user, topic in asked_about:
         if not rules.covers(asked, client, user, topic):
             continue
@@ -92,7 +92,7 @@ def faults_of_missing(rules, rows, asked, told, asked_about):
         for access in ("read", "write"):
             kind = (whom(rows, user), access)
             if kind not in listed if access in may else kind in whole:
-                yield f"who: {user} {access} {topic} as {client} isn't listed rightly: {told}"
+                yield f"who: {user} {access} {topic} as {client} isn't listed rightly: {shown}"
                 return
 
 
@@ -100,16 +100,16 @@ def faults_of_who(rules, run, folder, wanted, rows, asked_about, left_out):
     """Of a filter, and of others than some."""
     words = ["who", *rules.words, "--json", "old.acl"]
     done = run([*words, "--", wanted], folder)
-    told = [json.loads(line) for line in done.stdout.splitlines()]
+    shown = [json.loads(line) for line in done.stdout.splitlines()]
     if done.returncode != 0:
         yield f"who {wanted}: status {done.returncode}: {done.stderr}"
     asked = Row(0, True, None, "readwrite", wanted)
-    for each in told:
+    for each in shown:
         yield from faults_of_permission(rules, rows, asked, each)
-    yield from faults_of_missing(rules, rows, asked, told, asked_about)
+    yield from faults_of_missing(rules, rows, asked, shown, asked_about)
     only = ",".join(left_out)
     left = {None if word == "-" else word for word in left_out}
-    others = [each for each in told if whom(rows, each["user"]) not in left]
+    others = [each for each in shown if whom(rows, each["user"]) not in left]
     done = run([*words, f"--only={only}", "--", wanted], folder)
     if ([json.loads(line) for line in done.stdout.splitlines()], done.returncode) != (
             others, 1 if others else 0):

@@ -73,8 +73,8 @@ def check(top):
     # a tool has its own name, and is no link, at which the toolchain would stop
     tool = top / "bin/mqroute-who-hears"
     assert not tool.is_symlink()
-    told = subprocess.run([tool, "x"], capture_output=True, text=True, check=True).stdout
-    assert told == f"{[str(tool), 'x']}\n", told
+    shown = subprocess.run([tool, "x"], capture_output=True, text=True, check=True).stdout
+    assert shown == f"{[str(tool), 'x']}\n", shown
     assert (top / "seen").read_text().split() == ["mqroute", "mqroute_acl", "words"]
 
     status, out, _ = ended(top, "is kept: an earlier run proved the same")

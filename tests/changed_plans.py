@@ -106,12 +106,12 @@ def faults_of_plan(run, folder, chance, old, new, cases):
     pathlib.Path(folder, "plan").write_text(text)
     words = ["compare", "--rules", "own", "--plan", "plan", "--json", "old.acl", "new.acl"]
     done = run(words, folder)
-    told = [json.loads(line) for line in done.stdout.splitlines()]
-    if done.returncode != (1 if told else 0) or done.stderr:
+    listed = [json.loads(line) for line in done.stdout.splitlines()]
+    if done.returncode != (1 if listed else 0) or done.stderr:
         yield f"compare --plan: status {done.returncode}: {done.stderr}{text}"
         return
     found = set()
-    for one in told:
+    for one in listed:
         case, name = changed(plan, old, new, one["client"], one["user"], one["topic"],
                              one["access"])
         shown = Case(one["user"], one["access"], one["change"], one["topic"].startswith("$"),

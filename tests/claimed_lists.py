@@ -55,34 +55,34 @@ def unnamed(rows, claim):
     return next((whom for whom in (claim.whom, *claim.left_out) if whom not in kinds), None)
 
 
-def faults_of_shown(rules, rows, claim, told):
+def faults_of_shown(rules, rows, claim, shown):
     """What is wrong with the client and the topic that show that the claim doesn't hold."""
-    client, user, topic, access = told["client"], told["user"], told["topic"], told["access"]
+    client, user, topic, access = shown["client"], shown["user"], shown["topic"], shown["access"]
     row, _ = deciding(rules, rows, client, user, topic, access)
     may = allowed(rules, rows, client, user, topic, access)
     if (not is_claimed(rules, rows, claim, client, user, topic)
             or access not in ACCESSES[claim.access] or may != (claim.holds == "not ")):
-        yield f"test: {claim.line()}: {told} is no case"
-    if (told["decided"] and told["decided"]["line"]) != number_of(row):
-        yield f"test: {claim.line()}: {told} is decided by {row}"
+        yield f"test: {claim.line()}: {shown} is no case"
+    if (shown["decided"] and shown["decided"]["line"]) != number_of(row):
+        yield f"test: {claim.line()}: {shown} is decided by {row}"
 
 
-def faults_of_verdict(rules, rows, claim, told, asked_about):
+def faults_of_verdict(rules, rows, claim, shown, asked_about):
     """What is wrong with what is said of a claim."""
-    if (told["kind"] == "unnamed") != (unnamed(rows, claim) is not None):
-        yield f"test: {claim.line()}: {told}"
-    if told["kind"] == "fails":
-        yield from faults_of_shown(rules, rows, claim, told)
-    if told["kind"] not in ("holds", "none may"):
+    if (shown["kind"] == "unnamed") != (unnamed(rows, claim) is not None):
+        yield f"test: {claim.line()}: {shown}"
+    if shown["kind"] == "fails":
+        yield from faults_of_shown(rules, rows, claim, shown)
+    if shown["kind"] not in ("holds", "none may"):
         return
     cases = [case for case in asked_about if is_claimed(rules, rows, claim, *case)]
     for access in ACCESSES[claim.access]:
-        if told["kind"] == "none may" and told["words"].split()[4] != access:
+        if shown["kind"] == "none may" and shown["words"].split()[4] != access:
             continue
         may = {allowed(rules, rows, *case, access) for case in cases}
         wrong = {"every": False, "none": True}.get(HOLDS[claim.holds])
-        if (True in may if told["kind"] == "none may" else wrong in may):
-            yield f"test: {claim.line()}: {told}, and {access} {may}"
+        if (True in may if shown["kind"] == "none may" else wrong in may):
+            yield f"test: {claim.line()}: {shown}, and {access} {may}"
 
 
 def faults_of_claims(rules, run, folder, chance, random_filter, rows, asked_about):
@@ -91,17 +91,17 @@ def faults_of_claims(rules, run, folder, chance, random_filter, rows, asked_abou
     pathlib.Path(folder, "old.expected").write_text(lines)
     done = run(["test", *rules.words, "--json", "--junit", "old.xml", "old.expected", "old.acl"],
                folder)
-    *told, counts = [json.loads(line) for line in done.stdout.splitlines()] or [None]
-    hold = sum(each["holds"] for each in told)
-    if (len(told) != len(claims) or counts != {"expectations": len(claims), "hold": hold}
+    *shown, counts = [json.loads(line) for line in done.stdout.splitlines()] or [None]
+    hold = sum(each["holds"] for each in shown)
+    if (len(shown) != len(claims) or counts != {"expectations": len(claims), "hold": hold}
             or done.returncode != (0 if hold == len(claims) else 1)):
         yield f"test: status {done.returncode}: {done.stdout}{done.stderr}{lines}"
         return
-    for claim, each in zip(claims, told):
+    for claim, each in zip(claims, shown):
         yield from faults_of_verdict(rules, rows, claim, each, asked_about)
     suite = ElementTree.parse(pathlib.Path(folder, "old.xml")).find("testsuite")
     failing = [case.get("name") for case in suite if case.find("failure") is not None]
-    if failing != [each["text"] for each in told if not each["holds"]]:
+    if failing != [each["text"] for each in shown if not each["holds"]]:
         yield f"test --junit: {failing} of {lines}"
 
 
@@ -113,13 +113,13 @@ def faults_of_any(rules, run, folder, user, wanted, rows, asked_about):
         if (done.returncode, done.stdout) != (2, ""):
             yield f"reach --any {wanted}: user {user}: status {done.returncode}: {done.stdout}"
         return
-    told = json.loads(done.stdout)
-    if done.returncode != (1 if told["topic"] is None else 0) or told["user"] != user:
-        yield f"reach --any {wanted}: status {done.returncode}: {told}"
+    shown = json.loads(done.stdout)
+    if done.returncode != (1 if shown["topic"] is None else 0) or shown["user"] != user:
+        yield f"reach --any {wanted}: status {done.returncode}: {shown}"
     claim = Claim(user or "anonymous", "not ", "read", wanted, ())
-    if told["topic"] is not None:
-        yield from faults_of_shown(rules, rows, claim, told | {"access": "read",
-                                                               "decided": told["line"]})
+    if shown["topic"] is not None:
+        decided = shown | {"access": "read", "decided": shown["line"]}
+        yield from faults_of_shown(rules, rows, claim, decided)
         return
     for case in asked_about:
         if is_claimed(rules, rows, claim, *case) and allowed(rules, rows, *case, "read"):

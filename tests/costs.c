@@ -52,7 +52,7 @@ static unsigned long script_from, most, longs_from;
 static char *mosts;
 // How much of the script was given before the counted lines.
 static unsigned long given;
-static int told = -1;
+static int shown = -1;
 static enum { BEFORE_LINES, IN_LINE, BEHIND_LINE } place;
 // Whether all of the line was given.
 static int is_whole;
@@ -77,7 +77,7 @@ __attribute__((constructor)) static void begin(void) {
     script_from = number("MQ_FROM");
     mosts = getenv("MQ_MOST");
     longs_from = number("MQ_LONG");
-    told = path ? open(path, O_CREAT | O_WRONLY | O_TRUNC, 0600) : -1;
+    shown = path ? open(path, O_CREAT | O_WRONLY | O_TRUNC, 0600) : -1;
     signal(SIGTRAP, (void (*)(int))step);
 }
 
@@ -90,7 +90,7 @@ static void begin_line(void) {
 
 static void end_line(void) {
     place = BEHIND_LINE;
-    dprintf(told, "%lu %lu %lu %ld %ld %lu\n", counts.instructions, counts.blocks, counts.bytes, counts.room, held,
+    dprintf(shown, "%lu %lu %lu %ld %ld %lu\n", counts.instructions, counts.blocks, counts.bytes, counts.room, held,
             counts.long_blocks);
 }
 
@@ -131,7 +131,7 @@ static void set_trap_flag(int on) {
 long read(int file, void *to, size_t room) {
     long n;
     set_trap_flag(0);
-    if (file != 0 || told < 0) {
+    if (file != 0 || shown < 0) {
         return __read(file, to, room);
     }
     n = read_script(to, room);

@@ -48,17 +48,17 @@ def is_decided(rules, rows, line, case, access):
     return (row and row.number) == (line and line["line"])
 
 
-def faults_of_told(told, lines, topics, rows, rules, lists, asked_about):
-    counts = told["publishes"], told["topics"]
+def faults_of_shown(shown, lines, topics, rows, rules, lists, asked_about):
+    counts = shown["publishes"], shown["topics"]
     if counts != counts_of(topics, rows):
-        yield f"{told} counts {counts}, not {counts_of(topics, rows)}"
+        yield f"{shown} counts {counts}, not {counts_of(topics, rows)}"
     meant = {case[2] for case in asked_about if case[2] in topics and all(
-        is_decided(rules, of, line, case, told["access"]) for of, line in zip(lists, lines))}
-    if len(meant) > told["topics"]:
-        yield f"{told} is about {sorted(meant)}"
+        is_decided(rules, of, line, case, shown["access"]) for of, line in zip(lists, lines))}
+    if len(meant) > shown["topics"]:
+        yield f"{shown} is about {sorted(meant)}"
 
 
-def told_by(run, folder, words):
+def shown_by(run, folder, words):
     done = run([*words, "--script", "counted.jsonl"], folder)
     return [json.loads(line) for line in done.stdout.splitlines()]
 
@@ -67,15 +67,15 @@ def faults_of_counts(rules, run, folder, chance, names, wanted, lists, asked_abo
     """Of the differences of both lists, and of who may by the first what the filter matches."""
     script, topics = random_publishes(chance, names)
     pathlib.Path(folder, "counted.jsonl").write_text(script)
-    for told in told_by(run, folder, ["compare", *rules.words, "--json", "old.acl", "new.acl"]):
-        lines = [told["old"], told["new"]]
-        yield from faults_of_told(
-            told, lines, topics, rows_at(lines, lists), rules, lists, asked_about)
+    for shown in shown_by(run, folder, ["compare", *rules.words, "--json", "old.acl", "new.acl"]):
+        lines = [shown["old"], shown["new"]]
+        yield from faults_of_shown(
+            shown, lines, topics, rows_at(lines, lists), rules, lists, asked_about)
     asked = Row(0, True, None, "readwrite", wanted)
     covered = [case for case in asked_about if rules.covers(asked, case[0], case[1], case[2])]
     words = ["who", *rules.words, "--json", "old.acl"]
-    for told in told_by(run, folder, [*words, f"--access={chance.choice(['read', 'write'])}",
-                                      wanted]):
-        rows = [asked, *rows_at([told["line"]], lists[:1])]
-        yield from faults_of_told(
-            told, [told["line"]], topics, rows, rules, lists[:1], covered)
+    access = chance.choice(["read", "write"])
+    for shown in shown_by(run, folder, [*words, f"--access={access}", wanted]):
+        rows = [asked, *rows_at([shown["line"]], lists[:1])]
+        yield from faults_of_shown(
+            shown, [shown["line"]], topics, rows, rules, lists[:1], covered)

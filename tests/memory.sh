@@ -86,10 +86,10 @@ END
 # The number of lines that end an answer, the last of them, and the program's status.
 lines=1000000
 mixed "$lines" > "$work/script"
-told=$({ (ulimit -v "$room" && exec "$program") < "$work/script" 2> "$work/err"; echo $? > "$work/status"; } \
+shown=$({ (ulimit -v "$room" && exec "$program") < "$work/script" 2> "$work/err"; echo $? > "$work/status"; } \
     | awk '/"(reason|refused|nodes)":/ { answers++ } END { print answers, (NR > answers), $0 }')
-[[ "$told $(cat "$work/status")" =~ ^"$lines 1 "\{.*\"line\":$lines[,}].*" 1"$ ]] && [ ! -s "$work/err" ]
-say $? "$lines lines in $room KiB: wanted $lines answers with copies among them and status 1, got $told, status \
+[[ "$shown $(cat "$work/status")" =~ ^"$lines 1 "\{.*\"line\":$lines[,}].*" 1"$ ]] && [ ! -s "$work/err" ]
+say $? "$lines lines in $room KiB: wanted $lines answers with copies among them and status 1, got $shown, status \
 $(cat "$work/status") $(cat "$work/err")"
 
 # Each client takes memory: so many don't fit. Those that did are answered.
@@ -98,7 +98,7 @@ seq -f '{"do":"connect","client":"%.0f"}' "$clients" | (ulimit -v "$room" && exe
 status=$?
 seq -f '{"line":%.0f,"reason":0}' "$clients" > "$work/wanted"
 [ "$status" = 3 ] && [ "$(cat "$work/err")" = "mqroute: out of memory" ]
-say $? "$clients clients in $room KiB: wanted status 3 and to be told so, got status $status: $(cat "$work/err")"
+say $? "$clients clients in $room KiB: wanted status 3 and a line that says so, got status $status: $(cat "$work/err")"
 written=$(wc -c < "$work/out")
 [ "$written" -gt 0 ] && cmp -s -n "$written" "$work/out" "$work/wanted" && [ -z "$(tail -c 1 "$work/out")" ]
 say $? "$clients clients in $room KiB: what is written should be whole lines from the front of the answers: \
@@ -109,10 +109,10 @@ subscribes=300000
 echo "topic read t/#" > "$work/list"
 { echo '{"do":"connect","client":"c"}'; seq -f '{"do":"subscribe","client":"c","filter":"t/%.0f/#"}' "$subscribes"; } \
     > "$work/script"
-told=$( (ulimit -v "$acl_room" && exec "$acl" reach "$work/list" --script "$work/script") 2>&1)
+shown=$( (ulimit -v "$acl_room" && exec "$acl" reach "$work/list" --script "$work/script") 2>&1)
 status=$?
-[ "$status" = 0 ] && [ "$told" = "0 of $subscribes subscriptions can receive nothing" ]
-say $? "reach on $subscribes subscribes in $acl_room KiB: wanted status 0 and no such subscription, got status $status: $told"
+[ "$status" = 0 ] && [ "$shown" = "0 of $subscribes subscriptions can receive nothing" ]
+say $? "reach on $subscribes subscribes in $acl_room KiB: wanted status 0 and no such subscription, got status $status: $shown"
 
 # Lists of a hundred users with fifty lines each, one with a line more.
 for user in $(seq 100); do

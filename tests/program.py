@@ -26,7 +26,7 @@ FILES = {"script": SCRIPT.encode(), "list": b"topic a\n", "faulty": b"# c\n\ntop
 UNKNOWN_RULES = "error: {}\n  [possible values: own, mosquitto]\n\n" \
     "For more information, try '--help'.\n"
 
-# Arguments; what is written, what is told, and the status. The script is on standard input too.
+# Arguments; what is written, what is shown, and the status. The script is on standard input too.
 CASES = [
     ("script", ALLOWED, "", 0),
     ("-", ALLOWED, "", 0),
@@ -161,7 +161,7 @@ def text_of(**fields):
 
 
 def run(arguments, script, folder="."):
-    """What was written, what was told, and the status."""
+    """What was written, what was shown, and the status."""
     data = script if isinstance(script, bytes) else script.encode()
     done = subprocess.run(
         [PROGRAM, *arguments.split()], input=data, capture_output=True, cwd=folder, timeout=60)
@@ -187,13 +187,13 @@ def faults_of_arguments(folder):
         if list(found) != wanted:
             yield f"mqroute {arguments}: {found}"
     for arguments in MISUSED:
-        written, told, status = run(arguments, SCRIPT, folder)
-        if (written, status) != ("", 2) or not told.startswith("error: "):
-            yield f"mqroute {arguments}: {written, told, status}"
-    written, told, status = run("--help", "")
+        written, shown, status = run(arguments, SCRIPT, folder)
+        if (written, status) != ("", 2) or not shown.startswith("error: "):
+            yield f"mqroute {arguments}: {written, shown, status}"
+    written, shown, status = run("--help", "")
     if ("Usage: mqroute [OPTIONS] [SCRIPT]" not in written or "--acl-file <FILE>" not in written
-            or told or status):
-        yield f"mqroute --help: {written, told, status}"
+            or shown or status):
+        yield f"mqroute --help: {written, shown, status}"
 
 
 def faults_of_devices(folder):
@@ -205,17 +205,17 @@ def faults_of_devices(folder):
         yield f"mqroute with a folder as its input: {read}"
     for arguments in (["--help"], ["--unbuffered", "script"]):
         with open("/dev/full", "wb") as full:
-            told = subprocess.run(
+            shown = subprocess.run(
                 [PROGRAM, *arguments], stdout=full, stderr=subprocess.PIPE, cwd=folder, timeout=60)
-        if (told.stderr, told.returncode) != (b"mqroute: write fault\n", 3):
-            yield f"mqroute {arguments} on a full device: {told}"
-    # What can't be told is passed over: the status is as if it had been told.
+        if (shown.stderr, shown.returncode) != (b"mqroute: write fault\n", 3):
+            yield f"mqroute {arguments} on a full device: {shown}"
+    # What can't be shown is passed over: the status is as if it had been shown.
     for argument, status in (("nowhere", 2), ("--bad", 2), (".", 3)):
         with open("/dev/full", "wb") as full:
             done = subprocess.run(
                 [PROGRAM, argument], stdout=subprocess.PIPE, stderr=full, cwd=folder, timeout=60)
         if (done.stdout, done.returncode) != (b"", status):
-            yield f"mqroute {argument}, whose fault can't be told: {done}"
+            yield f"mqroute {argument}, whose fault can't be shown: {done}"
 
 
 def faults_of_pieces(folder):

@@ -69,13 +69,13 @@ def near(chance, lines):
     return lines
 
 
-def faults_of_told(rules, told, old, new):
-    """What is wrong with a difference that is told."""
-    client, user, topic, access = told["client"], told["user"], told["topic"], told["access"]
+def faults_of_shown(rules, shown, old, new):
+    """What is wrong with a difference that is shown."""
+    client, user, topic, access = shown["client"], shown["user"], shown["topic"], shown["access"]
     by_old, by_new = (allowed(rules, rows, client, user, topic, access) for rows in (old, new))
-    if (by_old, by_new) != ((False, True) if told["change"] == "gained" else (True, False)):
+    if (by_old, by_new) != ((False, True) if shown["change"] == "gained" else (True, False)):
         yield "is none"
-    for rows, line in ((old, told["old"]), (new, told["new"])):
+    for rows, line in ((old, shown["old"]), (new, shown["new"])):
         row, _ = deciding(rules, rows, client, user, topic, access)
         if line_of(line) != number_of(row):
             yield f"is decided by {row}"
@@ -106,17 +106,17 @@ def faults_of_compare(rules, folder, old, new):
     """Of each class of clients, access and way a difference is listed; and where no line has a
     mark, of each pair of lines that decides."""
     done = run(["compare", *rules.words, "--json", "old.acl", "new.acl"], folder)
-    told = [json.loads(line) for line in done.stdout.splitlines()]
+    shown = [json.loads(line) for line in done.stdout.splitlines()]
     old_rows, new_rows = rows_of(old), rows_of(new)
-    for difference in told:
-        for fault in faults_of_told(rules, difference, old_rows, new_rows):
+    for difference in shown:
+        for fault in faults_of_shown(rules, difference, old_rows, new_rows):
             yield f"{difference} {fault}"
-    if done.returncode != (1 if told else 0):
+    if done.returncode != (1 if shown else 0):
         yield f"status {done.returncode}"
     yield from faults_of_noted(rules, done.stderr, {"old.acl": old_rows, "new.acl": new_rows})
     for way in ("gained", "lost"):
         done = run(["compare", *rules.words, "--json", "--only", way, "old.acl", "new.acl"], folder)
-        wanted = [each for each in told if each["change"] == way]
+        wanted = [each for each in shown if each["change"] == way]
         if ([json.loads(line) for line in done.stdout.splitlines()], done.returncode) != (
                 wanted, 1 if wanted else 0):
             yield f"--only {way}: status {done.returncode}: {done.stdout}"
@@ -128,7 +128,7 @@ def faults_of_compare(rules, folder, old, new):
         return (whom, access, change, *lines) if by_lines else (whom, access, change)
 
     kinds = {kind(d["user"], d["access"], d["change"], line_of(d["old"]), line_of(d["new"]))
-             for d in told}
+             for d in shown}
     for user, client, topic in itertools.product(USERS, CLIENTS, TOPICS):
         by_old = accesses(rules, old_rows, client, user, topic)
         by_new = accesses(rules, new_rows, client, user, topic)
@@ -150,11 +150,11 @@ def faults_of_known_pairs(rules, folder):
         pathlib.Path(folder, "old.acl").write_text(old)
         pathlib.Path(folder, "new.acl").write_text(new)
         yield from faults_of_compare(rules, folder, old, new)
-        told = run(["compare", *rules.words, "old.acl", "new.acl"], folder)
-        told = told.stdout.splitlines()[-1:]
+        shown = run(["compare", *rules.words, "old.acl", "new.acl"], folder)
+        shown = shown.stdout.splitlines()[-1:]
         whose = " by mosquitto's rules" if rules.words else ""
-        if told != [f"{count} differences{whose}"]:
-            yield f"compare: {told}, not {count} differences"
+        if shown != [f"{count} differences{whose}"]:
+            yield f"compare: {shown}, not {count} differences"
 
 
 def asked_of(question, rules, client, user, topic):
@@ -169,11 +169,11 @@ def faults_of_why(rules, folder, chance, text):
     topic = chance.choice(TOPICS)
     words = asked_of("why", rules, client, user, topic)
     done = run(words, folder)
-    told = [json.loads(line) for line in done.stdout.splitlines()]
-    if done.returncode != 0 or [each["access"] for each in told] != ["read", "write"]:
+    shown = [json.loads(line) for line in done.stdout.splitlines()]
+    if done.returncode != 0 or [each["access"] for each in shown] != ["read", "write"]:
         yield f"{words}: status {done.returncode}: {done.stdout}{done.stderr}"
         return
-    for each in told:
+    for each in shown:
         row, grant = deciding(rules, rows, client, user, topic, each["access"])
         deny = row if row and row.access == "deny" else None
         wanted = number_of(deny), number_of(grant)
@@ -194,14 +194,14 @@ def faults_of_reach(rules, folder, chance, text):
     share = chance.choice(["", "", "$share/g/"])
     words = asked_of("reach", rules, client, user, share + wanted)
     done = run(words, folder)
-    told = json.loads(done.stdout)
-    if told["filter"] != share + wanted or done.returncode != (1 if told["topic"] is None else 0):
+    shown = json.loads(done.stdout)
+    if shown["filter"] != share + wanted or done.returncode != (1 if shown["topic"] is None else 0):
         yield f"{words}: status {done.returncode}: {done.stdout}{done.stderr}"
-    for topic in TOPICS if told["topic"] is None else [told["topic"]]:
+    for topic in TOPICS if shown["topic"] is None else [shown["topic"]]:
         found = (filter_matches(wanted, topic)
                  and allowed(rules, rows, client, user, topic, "read"))
-        if found == (told["topic"] is None):
-            yield f"{words}: {told}, and {topic} is {'' if found else 'not '}reached"
+        if found == (shown["topic"] is None):
+            yield f"{words}: {shown}, and {topic} is {'' if found else 'not '}reached"
             return
 
 
@@ -291,7 +291,7 @@ def random_script(chance):
 
 
 def no_command(name, script):
-    """What is told of a script without a command."""
+    """What is shown of a script without a command."""
     lines = script.count("\n") + (script[-1:] not in ("", "\n"))
     return f"mqroute-acl: {name}: no line of {lines} is a command\n"
 
@@ -301,23 +301,23 @@ def faults_of_script(rules, folder, chance, text):
     lines, subscriptions, faulty = random_script(chance)
     script = "\n".join(lines) + chance.choice(["", "\n", "\n\n"])
     pathlib.Path(folder, "s.jsonl").write_text(script)
-    vain = [(number, client, user, text) for number, client, user, text, users in subscriptions
-            if not any(is_reached(rules, rows, client, name, text) for name in users)]
+    unreached = [(number, client, user, text) for number, client, user, text, users in subscriptions
+                 if not any(is_reached(rules, rows, client, name, text) for name in users)]
     done = run(["reach", *rules.words, "--json", "old.acl", "--script", "s.jsonl"], folder)
     if all(line in ("", *FAULTY_LINES) for line in lines):
         if (done.returncode, done.stdout, done.stderr) != (2, "", no_command("s.jsonl", script)):
             yield f"reach --script: status {done.returncode}: {done.stdout}{done.stderr}\n{script}"
         return
-    *told, counts = [json.loads(line) for line in done.stdout.splitlines()] or [None]
-    wanted = {"receive_nothing": len(vain), "subscriptions": len(subscriptions),
+    *shown, counts = [json.loads(line) for line in done.stdout.splitlines()] or [None]
+    wanted = {"receive_nothing": len(unreached), "subscriptions": len(subscriptions),
               "invalid_lines": len(faulty), "first_invalid_line": faulty[0] if faulty else None}
-    if done.returncode != (1 if vain else 0) or counts != wanted:
+    if done.returncode != (1 if unreached else 0) or counts != wanted:
         yield f"reach --script: status {done.returncode}, {counts}, not {wanted}\n{script}"
     if not rules.words:
         yield from faults_of_noted(rules, done.stderr, {"old.acl": rows})
-    found = [(each["line"], each["client"], each["user"], each["filter"]) for each in told]
-    if found != vain or any(each["file"] != "s.jsonl" for each in told):
-        yield f"reach --script: {told}, not {vain}\n{script}"
+    found = [(each["line"], each["client"], each["user"], each["filter"]) for each in shown]
+    if found != unreached or any(each["file"] != "s.jsonl" for each in shown):
+        yield f"reach --script: {shown}, not {unreached}\n{script}"
 
 
 def faults_of_needless(rules, folder, lines):
@@ -325,16 +325,16 @@ def faults_of_needless(rules, folder, lines):
     as denying nothing, no line grants. Without a line that is listed as needless, and those that
     repeat it, a list allows the same."""
     done = run(["lint", *rules.words, "--json", "old.acl"], folder)
-    told = [json.loads(line) for line in done.stdout.splitlines()]
-    counted = [each for each in told if each["kind"] not in ("denies nothing", "empty")]
+    shown = [json.loads(line) for line in done.stdout.splitlines()]
+    counted = [each for each in shown if each["kind"] not in ("denies nothing", "empty")]
     if (done.returncode != (1 if counted else 0)
             or any(each["kind"] not in ("needless", "repeats", "no mark") for each in counted)):
         yield f"lint: status {done.returncode}: {done.stdout}{done.stderr}"
     rows = rows_of("\n".join(lines))
     yield from faults_of_noted(rules, done.stderr, {"old.acl": rows}, is_linted=True)
-    if [each for each in told if each["kind"] == "empty"] and rows:
+    if [each for each in shown if each["kind"] == "empty"] and rows:
         yield f"lint: {lines} allow something"
-    of_kind = {kind: {each["line"]: each["other"] for each in told if each["kind"] == kind}
+    of_kind = {kind: {each["line"]: each["other"] for each in shown if each["kind"] == kind}
                for kind in ("needless", "repeats", "denies nothing")}
     repeats = {}
     for place, row in enumerate(rows):

@@ -1,4 +1,4 @@
-// A malloc to be preloaded, which refuses one growth. Which one is told by the environment, or by the program itself:
+// A malloc to be preloaded, which refuses one growth. Which one is shown by the environment, or by the program itself:
 //
 //   MQ_REFUSE=N                 refuses the Nth growth of the program, and makes the file MQ_REFUSED when it comes
 //   a request of ARM + N bytes  is refused, and so is the Nth growth after it (none for 0)

@@ -36,11 +36,11 @@ kit=$(dirname "$(dirname "$(readlink -f "$(command -v rt)")")")
 try_calls() { # NAME TEST ARGUMENTS..
     local name=$1
     shift
-    LD_PRELOAD=$work/refused.so "$tests" "tests::refused::$1" "${@:2}" > "$work/told" 2>&1
+    LD_PRELOAD=$work/refused.so "$tests" "tests::refused::$1" "${@:2}" > "$work/shown" 2>&1
     local status=$?
-    [ "$verbose" = -v ] && sed "s|^|$name: |" "$work/told"
-    cat "$work/told" >> "$work/all"
-    say "$status" "$name: status $status; $(tail -n 3 "$work/told" | paste -s -d ';')"
+    [ "$verbose" = -v ] && sed "s|^|$name: |" "$work/shown"
+    cat "$work/shown" >> "$work/all"
+    say "$status" "$name: status $status; $(tail -n 3 "$work/shown" | paste -s -d ';')"
 }
 
 try_calls calls growths_of_calls
@@ -53,7 +53,7 @@ for script in tests/rows/*.jsonl; do
     try_calls "$row" growths_of_a_row "$row.out" ${args[@]+"${args[@]}"} "$script"
 done
 
-# Each kind of call met a refusal somewhere, so that none is tried in vain.
+# Each kind of call met a refusal somewhere, so that none is tried in unreached.
 for call in TopicName::parse TopicName::clone TopicFilter::parse TopicFilter::clone SubFilter::parse SubFilter::clone \
     Acl::read read_acl read_line arguments put for_name for_filter apply print run; do
     grep -aEq "^$call .*: [1-9][0-9]*$" "$work/all"
@@ -66,7 +66,7 @@ is_front() {
 }
 
 # Whether the program says that memory ran out, wherever that was.
-is_told() { # PROGRAM STATUS
+is_shown() { # PROGRAM STATUS
     [ "$2" = 3 ] && [ "$(cat "$work/err")" = "${1##*/}: out of memory" ]
 }
 
@@ -84,7 +84,7 @@ try_program() { # PROGRAM INPUT ARGUMENTS..
         status=$?
         if [ "$status" = "$wanted" ] && cmp -s "$work/out" "$work/wanted" && cmp -s "$work/err" "$work/wanted_err"; then
             [ -e "$work/met" ] || break
-        elif [ ! -e "$work/met" ] || ! is_told "$program" "$status" || ! is_front; then
+        elif [ ! -e "$work/met" ] || ! is_shown "$program" "$status" || ! is_front; then
             wrong="$wrong $nth"
         fi
     done

@@ -29,9 +29,9 @@ if [ ! -x "$program" ]; then
     exit 1
 fi
 written=$(mktemp)
-told=$(mktemp)
+shown=$(mktemp)
 kept=$(mktemp)
-trap 'rm -f "$written" "$told" "$kept"' EXIT
+trap 'rm -f "$written" "$shown" "$kept"' EXIT
 
 for script in tests/rows/*.jsonl; do
     [ -e "$script" ] || continue
@@ -54,16 +54,16 @@ for script in conformance/*/*.jsonl; do
 done
 
 # A script of one byte more than 4,294,967,296 is cut, whatever its lines are.
-head -c 4294967297 /dev/zero | "$program" > "$written" 2> "$told"
+head -c 4294967297 /dev/zero | "$program" > "$written" 2> "$shown"
 status=$?
-cat "$told" >> "$written"
-echo "mqroute: script too long" > "$told"
-check "a script that is too long" "$told" 3
+cat "$shown" >> "$written"
+echo "mqroute: script too long" > "$shown"
+check "a script that is too long" "$shown" 3
 
-# What ends the program before its script does is told by one line on standard error.
-complaint() { # NAME TEXT STATUS, with what was told in $written and the status in $status
-    echo "mqroute: $2" > "$told"
-    check "$1" "$told" "$3"
+# What ends the program before its script does is shown by one line on standard error.
+complaint() { # NAME TEXT STATUS, with what was shown in $written and the status in $status
+    echo "mqroute: $2" > "$shown"
+    check "$1" "$shown" "$3"
 }
 
 # The same, where nothing is to stand on standard output.
@@ -87,10 +87,10 @@ seq -f '{"do":"connect","client":"%.0f"}' 200000 | (ulimit -v 8000 && exec "$pro
 status=$?
 complaint "an address space that is too small" "out of memory" 3
 
-# Where that can't be told either, the status is the same.
+# Where that can't be shown either, the status is the same.
 "$program" nowhere > "$written" 2> /dev/full
 status=$?
-check "a full device for what is told" /dev/null 2
+check "a full device for what is shown" /dev/null 2
 
 for list in examples/*/run; do
     [ -e "$list" ] || continue

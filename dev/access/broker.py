@@ -37,7 +37,7 @@ class Broker:
         return text.decode("utf-8", "replace")
 
     def why_not_up(self):
-        """Empty once it listens, which its log tells: a look at the port could take the port."""
+        """Empty once it listens, which its log shows: a look at the port could take the port."""
         text, end = "", time.monotonic() + PATIENCE
         while not text.endswith(" running\n"):
             if self.running.poll() is not None or time.monotonic() > end:
