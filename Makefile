@@ -62,6 +62,7 @@ bench: programs
 	bench/run.sh
 	bench/acl.py bin/mqroute-acl
 	bench/live.py bin/mqroute
+	bench/replay.py bin/mqroute
 
 # The toolchain stops at a link: an older `make run` left one in a crate's out/, an older `make` some in bin/.
 mended:

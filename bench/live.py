@@ -147,4 +147,5 @@ def main():
             measured(program, folder, *row)
 
 
-main()
+if __name__ == "__main__":
+    main()

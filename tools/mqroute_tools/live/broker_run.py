@@ -2,7 +2,6 @@
 from mqroute's answers."""
 import contextlib
 import os
-import select
 import ssl
 import subprocess
 import tempfile
@@ -20,11 +19,15 @@ from .group_members import with_their_members
 from .offer import Offer
 from .options import BrokerOptions
 from .paho_client import Connection
+from .receivers import Receivers
 from .run_ends import NEVER, RunEnds, TimeIsUp
+from .sockets import Sockets
 from .wills import Wills
 
 # nobody subscribes to it; its UNSUBACK shows that all that was sent before has come
 FENCE = "mqroute/fence"
+FEW = 10  # clients that are asked by it after every line, whether or not the line concerns them
+MOMENT = 0.02  # seconds
 QUIET_ROUNDS = 2  # a copy of QoS 2 wants two fences: one for PUBLISH, one for PUBREL
 MOST_ROUNDS = 20  # in each of which more comes, before that may be too long
 ACL_PAUSE = 0.3  # seconds that a broker gets to read an access list
@@ -37,6 +40,10 @@ class Replay:
     def __init__(self, options: BrokerOptions, until: float = NEVER) -> None:
         self.options, self.until = options, until
         self.live: dict[str, Connection] = {}
+        self.sockets = Sockets()
+        self.receivers = Receivers()
+        self.concerned: set[str] | None = None  # whom the last command may bring something
+        self.heard: dict[str, Connection] = {}  # who was sent something since the last line
         self.sessions = Sessions()
         self.offer = Offer(protocol=options.protocol)
         self.remarks: Counter[str] = Counter()  # what to say at the end, with {} for the number
@@ -49,40 +56,50 @@ class Replay:
     # -- waiting
 
     def pump(self, done: Callable[[], bool], what: str) -> None:
-        """Reads and writes on all connections until `done`."""
+        """Reads on all connections until `done`."""
         end = time.monotonic() + self.options.patience
         while not done():
             self.look_at_clock()
             if time.monotonic() > end:
                 raise RunEnds("no answer", f"no {what} within {self.options.patience:g} seconds")
-            by_socket = {c.client.socket(): c for c in self.live.values() if c.client.socket()}
-            for connection in by_socket.values():
-                connection.write()
-            ready = [held for held, c in by_socket.items() if c.has_more()]
-            if not ready:
-                ready, _, _ = select.select(list(by_socket), [], [], 0.02)
-            for readable in ready:
-                by_socket[readable].read()
+            self.heard |= {c.name: c for c in self.sockets.read(MOMENT)}
 
     def look_at_clock(self) -> None:
         if time.monotonic() > self.until:
             raise TimeIsUp
 
     def wait(self, connection: Connection, key: int | str, what: str) -> Acknowledged:
-        self.pump(lambda: key in connection.answered or "closed" in connection.answered, what)
+        self.pump(lambda: connection.has_answered(key), what)
         if key not in connection.answered:
             raise RunEnds(*connection.why_ended())
         return connection.answered.pop(key)
 
     def fence(self) -> None:
-        marks = [(c, c.unsubscribe(FENCE)) for c in self.live.values()]
+        """Until all has come that was sent to whom it may have been. All are asked before any is
+        waited for."""
+        marks = [(connection, connection.unsubscribe(FENCE)) for connection in self.asked()]
         for connection, mark in marks:
             self.wait(connection, mark, "UNSUBACK")
+        if any("closed" in connection.answered for connection in self.heard.values()):
+            self.look_at_ends()
+
+    def asked(self) -> list[Connection]:
+        """Those that the line concerns, and those to which something came though it doesn't."""
+        if self.concerned is None or len(self.live) <= FEW:
+            return list(self.live.values())
+        names = self.concerned.union(self.heard)
+        return [self.live[name] for name in sorted(names) if name in self.live]
+
+    def look_at_ends(self) -> None:
+        for connection in self.live.values():
+            if "closed" in connection.answered:
+                raise RunEnds(*connection.why_ended())
 
     def quiet(self) -> None:
         """Until nothing more comes."""
         idle, count, rounds = 0, -1, 0
-        time.sleep(self.options.settle)
+        if self.options.settle:  # a pause of 0 would be one too
+            time.sleep(self.options.settle)
         end = time.monotonic() + self.options.patience
         while idle < QUIET_ROUNDS:
             rounds += 1
@@ -90,7 +107,7 @@ class Replay:
                 raise RunEnds("no end", "it goes on sending after "
                               f"{self.options.patience:g} seconds")
             self.fence()
-            now = sum(len(c.got) for c in self.live.values())
+            now = sum(len(c.got) for c in self.heard.values())
             idle, count = (idle + 1, count) if now == count else (0, now)
 
     # -- commands
@@ -106,6 +123,7 @@ class Replay:
     def do(self, command: Command) -> Acknowledged:
         """Sends one command; gives what its acknowledgement says."""
         do = command["do"]
+        self.look_at_receivers(command)
         if do == "connect":
             return self.connect(command)
         if do in ("advance", "acl", "stat"):
@@ -125,26 +143,40 @@ class Replay:
             return self.wait(connection, connection.subscribe(command), "SUBACK")
         return self.wait(connection, connection.unsubscribe(command["filter"]), "UNSUBACK")
 
+    def look_at_receivers(self, command: Command) -> None:
+        self.receivers.follow(command)
+        self.concerned = self.receivers.of(command)
+        if self.concerned is not None and self.line in self.wills.due:
+            self.concerned |= self.receivers.of_topic(self.wills.due[self.line].message["topic"])
+
     def disconnect(self, connection: Connection) -> Acknowledged:
         if self.line in self.wills.due:
             connection.drop()
             time.sleep(WILL_PAUSE)
         else:
             connection.client.disconnect()
+            connection.write()
         self.pump(lambda: "closed" in connection.answered, "end of the connection")
-        del self.live[connection.name]
+        self.forget(connection.name)
         return Acknowledged()
 
     def connect(self, command: Command) -> Acknowledged:
-        self.live.pop(command["client"], None)  # the broker takes the old one's session over
+        self.forget(command["client"])  # the broker takes the old one's session over
         connection = self.connected(command)
         self.live[command["client"]] = connection
+        self.sockets.add(connection)
         said = self.wait(connection, "connect", "CONNACK")
         if said.reason:
             raise RunEnds("refused", "the broker refused the connection of "
                           f"{connection.name}, reason {packets.in_words(said.reason)}")
         self.offer, self.is_accepted = connection.offer, True
+        self.receivers.connected(connection.name, said.present)
         return said
+
+    def forget(self, name: str) -> None:
+        if name in self.live:
+            self.sockets.remove(self.live.pop(name))
+            self.heard.pop(name, None)
 
     def connected(self, command: Command) -> Connection:
         """A new connection."""
@@ -201,7 +233,8 @@ class Replay:
 
     def received(self) -> list[Copy]:
         """What has come, but for the topics that the broker publishes itself."""
-        found = [copy for connection in self.live.values() for copy in connection.copies()]
+        found = [copy for connection in self.heard.values() for copy in connection.copies()]
+        self.heard.clear()
         ours = [c for c in found if not c.topic.startswith("$SYS/") or c.topic in self.sys_topics]
         if len(ours) < len(found):
             what = "copies of topics under $SYS/, which the broker publishes itself, are left out"
@@ -214,3 +247,4 @@ class Replay:
                 if connection.client.socket():
                     connection.client.disconnect()
                     connection.write()
+        self.sockets.close()

@@ -3,6 +3,7 @@ import math
 import socket
 import sys
 import warnings
+from collections.abc import Callable
 from typing import Any
 
 from ..common.exit_status import FAILED
@@ -24,6 +25,12 @@ from .offer import Offer
 from .options import BrokerOptions
 
 KEEP_ALIVE = 3600  # seconds
+QUICK_ACK: int | None = getattr(socket, "TCP_QUICKACK", None)  # which not every system has
+UNSUBACK = packets.UNSUBACK << 4  # its first byte
+# Most of what comes are UNSUBACKs of one filter, of which paho makes objects of many fields. These
+# are what stands behind their packet identifier, without a property, and the reason.
+SHORT_UNSUBACKS: dict[str, dict[bytes, int | None]] = {
+    packets.MQTT_5: {b"\0\0": 0, b"\0\x11": 17}, packets.MQTT_3_1_1: {b"": None}}
 
 
 class Client(mqtt.Client):
@@ -42,6 +49,7 @@ class Client(mqtt.Client):
         self.options = options
         self.reasons: dict[int, int] = {}
         self.awaited: set[tuple[int, int]] = set()  # kinds of packets, with their identifiers
+        self.unsubscribed: Callable[[int, int | None], None] = lambda mid, reason: None
         self.is_accepted = False
         self.fault = ""  # what was wrong with a packet of the broker
         self.farewell: int | None = None  # the reason of its DISCONNECT
@@ -52,6 +60,8 @@ class Client(mqtt.Client):
 
     def _packet_handle(self) -> Any:
         first, body = self._in_packet["command"], bytes(self._in_packet["packet"])
+        if first == UNSUBACK and self.is_short(body):
+            return mqtt.MQTT_ERR_SUCCESS
         is_5 = self.options.protocol == packets.MQTT_5
         self.fault = (self.began_otherwise() or packets.fault(first, body, self.options.protocol)
                       or self.out_of_place(first >> 4, body))
@@ -67,6 +77,16 @@ class Client(mqtt.Client):
             mid = int.from_bytes(body[:2], "big")
             self.reasons.setdefault(mid, body[2] if len(body) > 2 else 0)
         return self.handled(packets.NAMES[first >> 4])
+
+    def is_short(self, body: bytes) -> bool:
+        """Whether an UNSUBACK that is awaited is one that has nothing to look at."""
+        awaited = packets.UNSUBACK, int.from_bytes(body[:2], "big")
+        short = SHORT_UNSUBACKS[self.options.protocol]
+        if not self.is_accepted or awaited not in self.awaited or body[2:] not in short:
+            return False
+        self.awaited.discard(awaited)
+        self.unsubscribed(awaited[1], short[body[2:]])
+        return True
 
     def handled(self, name: str) -> Any:
         """What paho makes of the packet, if it can."""
@@ -130,7 +150,9 @@ class Connection:
             more["clean_start"] = clean
         client.connect(options.host, options.port,
                        keepalive=max(1, math.ceil(options.patience)), **more)
-        self.at_once()
+        self.at_once(socket.TCP_NODELAY)
+        self.at_once(QUICK_ACK)
+        self.write()
 
     # -- how it is made
 
@@ -154,10 +176,14 @@ class Connection:
         client.on_disconnect = lambda *_: self.answered.update(closed=Acknowledged())
         client.on_subscribe = lambda _c, _u, mid, reasons, *_: self.answered.update(
             {mid: Acknowledged(number(first(reasons)))})
-        client.on_unsubscribe = lambda _c, _u, mid, *more: self.answered.update(
-            {mid: Acknowledged(number(first(more[1])) if more else None)})
+        client.unsubscribed = self.unsubscribed
+        client.on_unsubscribe = lambda _c, _u, mid, *more: self.unsubscribed(
+            mid, number(first(more[1])) if more else None)
         client.on_publish = lambda c, _u, mid: self.answered.update(
             {mid: Acknowledged(c.reasons.pop(mid, None))})
+
+    def unsubscribed(self, mid: int, reason: int | None) -> None:
+        self.answered[mid] = Acknowledged(reason)
 
     def connected(self, _client: Any, _data: Any, flags: Any, reason: Any,
                   properties: Any = None) -> None:
@@ -190,21 +216,25 @@ class Connection:
         if otherwise:
             self.client.fault = otherwise
             self.answered["closed"] = Acknowledged()
-        self.at_once()
+        self.at_once(QUICK_ACK)
+        self.write()
+
+    def has_answered(self, key: int | str) -> bool:
+        """Whether the acknowledgement has come, or none can come any more."""
+        return key in self.answered or "closed" in self.answered
 
     def has_more(self) -> bool:
         """Whether TLS holds what the socket shows no more."""
         held = getattr(self.client.socket(), "pending", None)
         return bool(held and held())
 
-    def at_once(self) -> None:
-        """Neither side is to hold small packets back: that would cost 40 ms a line."""
+    def at_once(self, option: int | None) -> None:
+        """Neither side is to hold small packets back: that would cost 40 ms a line. QUICK_ACK holds
+        for what is read next."""
         one = self.client.socket()
         one = getattr(one, "_socket", one)  # that of websockets
-        if one:
-            for option in ("TCP_NODELAY", "TCP_QUICKACK"):
-                if hasattr(socket, option):
-                    one.setsockopt(socket.IPPROTO_TCP, getattr(socket, option), 1)
+        if one and option is not None:
+            one.setsockopt(socket.IPPROTO_TCP, option, 1)
 
     def write(self) -> None:
         """What a connection that is gone still had to write is never written."""
@@ -221,6 +251,7 @@ class Connection:
                                    command.get("retain", False), **more)
         if qos:
             self.client.awaited.add((packets.PUBREC if qos == 2 else packets.PUBACK, sent.mid))
+        self.write()
         return int(sent.mid)
 
     def subscribe(self, command: Command) -> int:
@@ -235,11 +266,13 @@ class Connection:
         else:
             _, mid = self.client.subscribe(command["filter"], command.get("qos", 0))
         self.client.awaited.add((packets.SUBACK, mid))
+        self.write()
         return int(mid)
 
     def unsubscribe(self, name: str) -> int:
         _, mid = self.client.unsubscribe(name)
         self.client.awaited.add((packets.UNSUBACK, mid))
+        self.write()
         return int(mid)
 
     def copies(self) -> list[Copy]:

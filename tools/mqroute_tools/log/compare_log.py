@@ -46,6 +46,6 @@ def run(options: argparse.Namespace) -> int:
     refused = counted(found.refused, "publishes")
     tell(f"the broker sent {counted(found.sent, 'copies')} and refused {refused}; "
          f"{counted(len(lines), 'differences')}")
-    for kind, count in found.kinds():
+    for kind, count in found.kinds(lines):
         tell(f"{count} {kind}")
     return 1 if lines else 0

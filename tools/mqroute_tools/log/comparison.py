@@ -13,6 +13,10 @@ from .report_line import Line
 from .steps import Copy, Event, Step
 
 
+def is_alike(copy: Copy, other: Copy) -> bool:
+    return copy.size == other.size and copy.retain == other.retain
+
+
 class Comparison:
     """The lines to print, and how much was compared."""
 
@@ -50,11 +54,12 @@ class Comparison:
 
     def add_refusals(self, step: Step) -> None:
         theirs, ours = step.broker.refused, step.mqroute.refused
-        if not (theirs or ours):
+        self.refused += len(theirs)
+        if theirs == ours:
             return
-        self.refused += theirs.total()
-        for client, topic in sorted((theirs - ours) + (ours - theirs)):
-            who = "the broker" if theirs[client, topic] else "mqroute"
+        one, other = Counter(theirs), Counter(ours)
+        for client, topic in sorted((one - other) + (other - one)):
+            who = "the broker" if one[client, topic] else "mqroute"
             self.refusals.append(f"refused by {who} alone: line {step.place}: {client!r} {topic!r}")
 
     def spread(self, step: Step, key: Key) -> int:
@@ -94,6 +99,8 @@ class Comparison:
         """Gives each copy to its step. Who has all that was held back now, and who was cut off."""
         drained: set[str] = set()
         cut: set[str] = set()
+        if not step.events:
+            return drained, cut
         apart: defaultdict[tuple[str, Key], list[Copy]] = defaultdict(list)
         for event in step.events:
             if event.copy is None:
@@ -173,6 +180,8 @@ class Comparison:
         did = {command["do"] for command in step.commands}
         spread = 1 if "subscribe" in did else self.spread(step, line.key)
         ours = line.ours[:1] if client in step.old_protocol and "publish" in did else line.ours
+        if spread == 1 and len(ours) == 1 and any(is_alike(copy, ours[0]) for copy in line.theirs):
+            return False
         room = Counter((copy.size, copy.retain) for copy in ours
                        for _ in range(1 if copy.shared else spread))
         room -= Counter((copy.size, copy.retain) for copy in line.theirs)
@@ -185,7 +194,8 @@ class Comparison:
 
     def settle(self, clients: Iterable[str] | None, drained: bool) -> None:
         """Nothing more comes of what is owed; `drained`: nothing is held back any more."""
-        self.name(self.backlog.settle(clients), drained)
+        if self.backlog.owed:
+            self.name(self.backlog.settle(clients), drained)
 
     def name(self, found: Iterable[Owed], drained: bool) -> None:
         """Names the kinds of what came late, or didn't come."""
@@ -215,7 +225,8 @@ class Comparison:
         self.settle(None, drained=False)
         return [str(line) for line in self.found if line.kind] + self.refusals
 
-    def kinds(self) -> list[tuple[str, int]]:
-        """How many lines there are of each kind, most first."""
-        count = Counter(line.partition(": line ")[0] for line in self.lines())
+    @staticmethod
+    def kinds(lines: list[str]) -> list[tuple[str, int]]:
+        """How many of the lines there are of each kind, most first."""
+        count = Counter(line.partition(": line ")[0] for line in lines)
         return sorted(count.items(), key=lambda each: (-each[1], each[0]))

@@ -1,5 +1,5 @@
 """From the lines of a mosquitto log to the commands of a script."""
-from collections.abc import Iterable, Iterator
+from collections.abc import Callable, Iterable, Iterator
 from itertools import chain, islice
 from typing import BinaryIO
 
@@ -7,21 +7,19 @@ from ..script.file_kinds import OF_MOSQUITTO
 from ..script.output import Command
 from . import mosquitto_log as log
 from .broker_state import publish
-from .clients import Arrival, Clients
+from .clients import Arrival
+from .subscribing import Subscribing
 from .time_stamps import LOOKED_AT, Stamps
 
 ADDRESSES = 1_000  # new connections that are remembered until they say who they are
 
 
-class Converter(Clients):
+class Converter(Subscribing):
     """Reads lines one by one."""
 
     def __init__(self, session_expiry: int = 0, form: str | None = None) -> None:
         super().__init__(session_expiry)
         self.stamps = Stamps(form)
-        self.arrival: Arrival | None = None
-        self.packet: tuple[str, str, int] | None = None  # subscribe or unsubscribe, client, place
-        self.asked: tuple[str, int] | None = None  # filter and QoS, until the broker has granted it
         self.latest: tuple[str, int, int] | None = None  # the last PUBLISH: client, identifier, QoS
         # that connected over TCP: the broker has no such line of a websocket
         self.addresses: dict[str, None] = {}
@@ -30,6 +28,7 @@ class Converter(Clients):
         self.parting: tuple[str, int] | None = None
         self.is_log = False  # whether a line of mosquitto's was read
         self.silent = False  # the broker tells neither who connects nor whose connection ends
+        self.frequent = self.readers()
 
     # -- reading
 
@@ -42,7 +41,11 @@ class Converter(Clients):
         except UnicodeDecodeError:
             self.lost(raw.decode("utf-8", "replace"), len(raw))
             return
-        time, text = self.stamps.split(line)
+        stamps = self.stamps
+        if stamps.start and line.startswith(stamps.start):
+            time, text = stamps.last[1], line[len(stamps.start):]
+        else:
+            time, text = stamps.split(line)
         if self.parting is not None:
             self.end_after_disconnect(text)
         if self.ended is not None and not text.startswith(log.COPY):
@@ -75,19 +78,37 @@ class Converter(Clients):
         self.notes.add(
             "lines can be read in two ways; the first was taken", f"line {self.place}: {text}")
 
+    def readers(self) -> dict[str, tuple[str, Callable[[str], bool]]]:
+        """What reads a line of a frequent kind, by how such a line begins."""
+        starts: dict[str, Callable[[str], bool]] = {
+            log.COPY: self.copy, log.RECEIVED: self.routed, log.DENIED: self.denied_publish}
+        starts |= dict.fromkeys(log.ACKNOWLEDGING, self.acknowledging)
+        return {start[:log.TELLING]: (start, read) for start, read in starts.items()}
+
     def known(self, text: str) -> bool:
-        """Whether the line is of a known kind; it is then worked in. Frequent ones come first."""
-        if text.startswith(log.COPY):
-            sent = log.read_publish(text[len(log.COPY):], self.connected)
-            if sent:
-                self.copied(sent)
-            return sent is not None
-        if text.startswith(log.ACKNOWLEDGING):
-            return True
-        if text.startswith("Received PUBLISH from "):
-            return self.publish(text[22:], routed=True)
-        if text.startswith("Denied PUBLISH from "):
-            return self.publish(text[20:], routed=False)
+        """Whether the line is of a known kind; it is then worked in."""
+        frequent = self.frequent.get(text[:log.TELLING])
+        if frequent is not None and text.startswith(frequent[0]):
+            return frequent[1](text)
+        return self.known_rarer(text)
+
+    def copy(self, text: str) -> bool:
+        sent = log.read_publish(text[len(log.COPY):], self.connected)
+        if sent:
+            self.copied(sent)
+        return sent is not None
+
+    def routed(self, text: str) -> bool:
+        return self.publish(text[len(log.RECEIVED):], routed=True)
+
+    def denied_publish(self, text: str) -> bool:
+        return self.publish(text[len(log.DENIED):], routed=False)
+
+    def acknowledging(self, text: str) -> bool:
+        """Of an acknowledgement a script has nothing."""
+        return True
+
+    def known_rarer(self, text: str) -> bool:
         if text.startswith("Sending "):
             return self.sending(text[8:])
         if text.startswith("Received "):
@@ -224,78 +245,6 @@ class Converter(Clients):
         if dropped:
             self.never_released(dropped)
 
-    # -- subscribing: `<tab>FILTER (QoS N)`, then `CLIENT GRANTED FILTER`
-
-    def listed(self, text: str) -> bool:
-        """A line that begins with a tab: a filter, or the topic of a will."""
-        if self.arrival and self.arrival.will_head:
-            head = self.arrival.will_head
-            self.arrival.will = publish("", text, int(head[1]), int(head[3]), head[2] == "1")
-            return True
-        if self.packet is None:
-            return False
-        kind, client, place = self.packet
-        if kind == "unsubscribe":
-            self.unsubscribe(place, client, text)
-            self.asked = (text, -1)
-            return True
-        self.grant(None)
-        found = log.FILTER.match(text)
-        if found:
-            self.asked = (found[1], int(found[2]))
-        return found is not None
-
-    def granted(self, text: str) -> bool:
-        """The line with which the broker closes one filter of a SUBSCRIBE or UNSUBSCRIBE."""
-        if self.packet is None or self.asked is None:
-            return False
-        client, name = self.packet[1], self.asked[0]
-        if self.asked[1] < 0:
-            return text == f"{client} {name}"
-        if not (text.startswith(client + " ") and text.endswith(" " + name)):
-            return False
-        word = text[len(client) + 1:-len(name) - 1]
-        if word.isascii() and word.isdigit():
-            self.grant(int(word))
-            return True
-        return False
-
-    def grant(self, qos: int | None) -> None:
-        """Writes the subscribe that was asked for, with the QoS granted, or as
-        asked where no line tells it."""
-        if self.packet and self.asked and self.asked[1] >= 0:
-            kind, client, place = self.packet
-            qos = self.asked[1] if qos is None else qos
-            if qos > 2:
-                self.notes.add("subscribes that the broker refused: they are not in the script",
-                               f"line {self.place}: {client} {self.asked[0]}")
-            else:
-                self.subscribe(place, client, self.asked[0], qos)
-        self.asked = None
-
-    def subscribe(self, place: int, client: str, name: str, qos: int) -> None:
-        """A bridge is never sent its own messages, and gets RETAIN as it was published."""
-        session = self.session(client)
-        command: Command = (
-            {"do": "subscribe", "client": client, "filter": name} | ({"qos": qos} if qos else {}))
-        if session.bridge:
-            command |= (
-                {"rap": True} if name.startswith("$share/") else {"no_local": True, "rap": True})
-        session.add(name)
-        self.emit(place, command)
-
-    def unsubscribe(self, place: int, client: str, name: str) -> None:
-        self.emit(place, {"do": "unsubscribe", "client": client, "filter": name})
-        self.session(client).drop(name)
-
-    def bridge_subscribes(self, client: str, name: str) -> None:
-        """Within the broker that has the bridge. The log has no QoS here: with 2 each
-        copy has that of its publish."""
-        if client not in self.connected:
-            self.connect(Arrival(self.place, client, bridge=True), client, None, False, 4,
-                         client in self.away)
-        self.subscribe(self.place, client, name, 2)
-
     # -- coming and going
 
     def connack(self, text: str) -> bool:
@@ -398,7 +347,8 @@ def placed_commands(converter: Converter,
             converter.stamps.decide([line.decode("utf-8", "replace") for line in first])
             for raw in chain(first, lines):
                 converter.read(raw)
-                yield from converter.commands
+                if converter.commands:
+                    yield from converter.commands
     converter.commands = []
     converter.end_after_disconnect("")
     yield from converter.commands

@@ -19,10 +19,11 @@ AS_PUBLISHED = "Retain As Published"
 DIFFERENT = "different"
 
 
-def joined(copies: list[Copy]) -> Copy | None:
-    if not copies:
-        return None
-    return Copy(max(c.qos for c in copies), max(c.retain for c in copies))
+def joined(copies: list[Copy]) -> tuple[int, int] | None:
+    """Their greatest QoS and RETAIN."""
+    if len(copies) < 2:
+        return (copies[0].qos, copies[0].retain) if copies else None
+    return max(c.qos for c in copies), max(c.retain for c in copies)
 
 
 def greatest_retain(copies: list[Copy]) -> int:
@@ -32,6 +33,8 @@ def greatest_retain(copies: list[Copy]) -> int:
 def own_will(step: Step, key: Key) -> bool:
     """Whether the client publishes to the topic and then leaves: so a script has the will of a
     session that is kept."""
+    if len(step.commands) < 2:
+        return False
     gone = {"do": "disconnect", "client": key[0]}
     if gone not in step.commands:
         return False
@@ -48,6 +51,11 @@ def lower_qos(theirs: list[Copy], ours: list[Copy]) -> bool:
     return len(here) == len(there) and here != there and all(a >= b for a, b in zip(here, there))
 
 
+def is_of_group(step: Step) -> bool:
+    """Whether mqroute has a copy of a group at the step."""
+    return any(copy.shared for copies in step.mqroute.copies.values() for copy in copies)
+
+
 def kind(step: Step, key: Key) -> str:
     """Names the differences that one step alone explains; the others are `different`."""
     client, topic = key
@@ -60,11 +68,10 @@ def kind(step: Step, key: Key) -> str:
         return OVERLAPPING
     if client in step.old_protocol and lower_qos(theirs, ours):
         return ONE_QOS
-    if (sorted(c.qos for c in theirs) == sorted(c.qos for c in ours)
+    if (len(theirs) == len(ours) and sorted(c.qos for c in theirs) == sorted(c.qos for c in ours)
             and greatest_retain(theirs) > greatest_retain(ours)):
         return AS_PUBLISHED
-    of_group = any(c.shared for copies in step.mqroute.copies.values() for c in copies)
-    if not filters and of_group and (more or any(c.shared for c in ours)):
+    if not filters and (more or any(c.shared for c in ours)) and is_of_group(step):
         return MEMBERS_TURN
     if more and any(matches(f, topic) for f in step.shared.get(client, [])):
         return MEMBERS_TURN  # which was away, and now comes back

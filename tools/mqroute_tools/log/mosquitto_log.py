@@ -45,7 +45,8 @@ def raw_lines(stream: BinaryIO) -> Iterator[bytes]:
 ONE_PUBLISH = re.compile(
     r"(.*) \(d([01]), q([0-2]), r([01]), m(\d+), '(.*)', \.\.\. \((\d+) bytes\)\)")
 PUBLISH_HEAD = re.compile(r" \(d([01]), q([0-2]), r([01]), m(\d+), '")
-COPY = "Sending PUBLISH to "
+COPY, RECEIVED, DENIED = "Sending PUBLISH to ", "Received PUBLISH from ", "Denied PUBLISH from "
+TELLING = 15  # characters by which these differ from one another and from ACKNOWLEDGING
 PUBLISH_END = re.compile(r"', \.\.\. \((\d+) bytes\)\)$")
 CONNECTED = re.compile(r" \(p(\d+), c([01]), k\d+(?:, u'(.*)')?\)\.$")
 CONNACK = re.compile(r"(.*) \(([01]), (\d+)\)$")
@@ -111,12 +112,30 @@ class Publish(NamedTuple):
     readings: int = 1  # in how many ways it can be read, by the clients that are connected
 
 
+REMEMBERED = 10_000
+# Of QoS 0 there is no packet identifier, and so the same texts come again.
+OF_QOS_0: dict[str, Publish] = {}
+
+
 def read_publish(text: str, known: Container[str]) -> Publish | None:
     """`text` is what stands after `PUBLISH from ` or `PUBLISH to `."""
+    found = OF_QOS_0.get(text)
+    if found is not None:
+        return found
     one = ONE_PUBLISH.fullmatch(text) if text.count(" (d") == 1 else None
-    if one:
-        client, dup, qos, retain, packet, topic, size = one.groups()
-        return Publish(client, int(dup), int(qos), int(retain), int(packet), topic, int(size))
+    if one is None:
+        return read_odd_publish(text, known)
+    client, dup, qos, retain, packet, topic, size = one.groups()
+    found = Publish(client, int(dup), int(qos), int(retain), int(packet), topic, int(size))
+    if qos == "0":
+        if len(OF_QOS_0) >= REMEMBERED:
+            OF_QOS_0.clear()
+        OF_QOS_0[text] = found
+    return found
+
+
+def read_odd_publish(text: str, known: Container[str]) -> Publish | None:
+    """The same where a client id or a topic looks like another part of the line."""
     end = PUBLISH_END.search(text, text.rfind("'"))
     if end is None:
         return None

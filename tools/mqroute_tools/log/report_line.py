@@ -6,11 +6,12 @@ from .steps import Copy
 
 
 def shown(copies: list[Copy]) -> str:
-    return ", ".join(map(str, sorted(copies))) or "none"
+    return ", ".join(map(str, sorted(copies) if len(copies) > 1 else copies)) or "none"
 
 
 def flags(copies: list[Copy]) -> list[tuple[int, int]]:
-    return sorted((copy.qos, copy.retain) for copy in copies)
+    found = [(copy.qos, copy.retain) for copy in copies]
+    return sorted(found) if len(found) > 1 else found
 
 
 @dataclass
@@ -24,7 +25,8 @@ class Line:
     last: int = 0  # where the last of the copies was sent that came late
 
     def differs(self) -> bool:
-        return flags(self.theirs) != flags(self.ours)
+        is_as_many = len(self.theirs) == len(self.ours)
+        return not is_as_many or flags(self.theirs) != flags(self.ours)
 
     def __str__(self) -> str:
         late = f" (by line {self.last})" if self.last else ""

@@ -3,7 +3,7 @@ from collections.abc import Iterable, Iterator
 from typing import BinaryIO
 
 from ..common.exit_status import Fault
-from ..script.output import Block, Command, blocks, by_key, misfit, read_json
+from ..script.output import PLAIN, Block, Command, Key, blocks, by_key, misfit, read_json
 from ..script.topics import plain_filter
 from . import mosquitto_log as log
 from .broker_state import publish
@@ -33,22 +33,20 @@ class Watcher(Writer):
     def known(self, text: str) -> bool:
         self.acknowledged, self.behind = "", self.acknowledged
         self.sent_to, self.was_sent_to = "", self.sent_to
-        if text.startswith(log.ACKNOWLEDGING):
-            self.acknowledging(text)
-            return True
         return super().known(text)
 
-    def acknowledging(self, text: str) -> None:
+    def acknowledging(self, text: str) -> bool:
         if text.startswith("Sending "):
             answered = log.ANSWERED.match(text[8:])
             if answered:
                 self.sent_to = answered[2]
-            return
+            return True
         found = log.ACKNOWLEDGED.match(text[9:])
         if found:
             self.acknowledged = found[1]
             if self.flight.acknowledge(found[1], int(found[2])):
                 self.events.append(Event(self.place, found[1]))
+        return True
 
     def closed(self, client: str) -> None:
         if self.was_sent_to == client:
@@ -138,7 +136,7 @@ def steps(watcher: Watcher, streams: Iterable[BinaryIO]) -> Iterator[Step]:
         step.commands.append(command)
         if watcher.denied:
             if command["do"] == "publish":
-                step.broker.refused[watcher.denied.client, watcher.denied.topic] += 1
+                step.broker.refused.append((watcher.denied.client, watcher.denied.topic))
                 watcher.denied = None
         if watcher.renamed and command["do"] == "publish":
             step.renamed, watcher.renamed = True, False
@@ -168,18 +166,30 @@ def answered(found: Iterable[Step], name: str) -> Iterator[Step]:
 
 
 def add(step: Step, command: Command, block: Block, name: str) -> None:
-    found = by_key(block.copies, name)
-    why = misfit(command, block, found)
+    copies = step.mqroute.copies
+    plain = [found for text in block.copies if (found := PLAIN.fullmatch(text))]
+    if len(plain) == len(block.copies):
+        check(command, block, [(it[1], it[6]) for it in plain], name)
+        for it in plain:
+            copies[it[1], it[6]].append(
+                Copy(int(it[3]), int(it[4] == "true"), it[5] is not None, size_of(it[2])))
+    else:
+        texts = by_key(block.copies, name)
+        check(command, block, texts, name)
+        for key in texts:
+            copies[key] += [Copy(c["qos"], int(c["retain"]), "share" in c, size_of(c["payload"]))
+                            for c in map(read_json, texts[key])]
+    if block.refused == "NotAuthorized":
+        step.mqroute.refused.append((command["client"], command["topic"]))
+
+
+def check(command: Command, block: Block, keys: Iterable[Key], name: str) -> None:
+    """Refuses what mqroute can't have answered."""
+    why = misfit(command, block, keys)
     if block.refused == "NotAuthorized" and command["do"] != "publish":
         why = f"{block.refused} for the command {command['do']}"
     if why:
         raise Fault(f"{name} is of another script: line {block.line} is answered with {why}")
-    for key, texts in found.items():
-        copies = map(read_json, texts)
-        step.mqroute.copies[key] += [
-            Copy(c["qos"], int(c["retain"]), "share" in c, size_of(c["payload"])) for c in copies]
-    if block.refused == "NotAuthorized":
-        step.mqroute.refused[command["client"], command["topic"]] += 1
 
 
 def size_of(payload: str) -> int:

@@ -1,5 +1,5 @@
 """One step of a log: its commands, and what the broker and mqroute did then."""
-from collections import Counter, defaultdict
+from collections import defaultdict
 from dataclasses import dataclass, field
 from typing import NamedTuple
 
@@ -27,14 +27,14 @@ class Event(NamedTuple):
     apart: str = ""  # the kind of a copy that mqroute never has
 
 
-@dataclass
+@dataclass(slots=True)
 class Side:
     """The copies, and the publishes refused, of the broker or of mqroute, of one step."""
     copies: defaultdict[Key, list[Copy]] = field(default_factory=lambda: defaultdict(list))
-    refused: Counter[Key] = field(default_factory=Counter)
+    refused: list[Key] = field(default_factory=list)
 
 
-@dataclass
+@dataclass(slots=True)
 class Step:
     """The commands of one line of the log, and what the broker did until the next ones."""
     place: int

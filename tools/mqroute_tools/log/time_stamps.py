@@ -28,7 +28,9 @@ class Stamps:
         self.others = 0  # lines of other programs
         self.last: tuple[str, int | None] = ("", None)
         self.prefix_time: int | None = None
-        self.start = ""  # the last stamp, where it stands alone before the text: most lines have it
+        # the last stamp, where it stands alone before the text: most lines begin with it, and their
+        # reader takes it off
+        self.start = ""
 
     def decide(self, lines: Sequence[str]) -> None:
         """Finds the form by the first lines of a file: the first of all may be cut, or
@@ -50,8 +52,6 @@ class Stamps:
     def split(self, line: str) -> tuple[int | None, str]:
         """The line's time in seconds, if it has one, and the line without it. Of
         another program's line no text."""
-        if self.start and line.startswith(self.start):
-            return self.last[1], line[len(self.start):]
         if not self.prefixed:
             return self.own(line)
         found = PREFIX.match(line)

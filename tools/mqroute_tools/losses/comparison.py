@@ -6,10 +6,14 @@ from typing import BinaryIO
 from ..common.exit_status import Fault
 from ..common.files import at, open_input
 from ..script.commands import Seen
-from ..script.output import Block, Command, blocks, by_key, command_of, is_blank, misfit
+from ..script.output import Block, Command, Key, blocks, by_key, command_of, is_blank, misfit
 from .attribution import Grouped, difference
 from .findings import Copies, CopiesRow, Findings, RefusedRow, Refusals, Subject, Totals
 from .report_rows import Reasons, Row, all_causes, copies_of, refused_of, row_order
+
+REMEMBERED = 1 << 14  # topics, and clients with a topic
+NONE: list[str] = []
+NOTHING: Grouped = {}
 
 
 def gathered(depth: int | None, topic: str) -> str:
@@ -23,15 +27,16 @@ class Losses:
     it by user name and topic."""
 
     def __init__(self, depth: int | None) -> None:
-        self.gathered = lru_cache(1 << 14)(partial(gathered, depth))
+        self.gathered = lru_cache(REMEMBERED)(partial(gathered, depth))
         self.reasons: Reasons | None = None
         self.copies: defaultdict[Row, Copies] = defaultdict(Copies)
         self.refusals: defaultdict[Row, Refusals] = defaultdict(Refusals)
+        self.entries: dict[Key, Copies] = {}  # of `copies`, those of the first keys
 
     def add(self, text: bytes, before: Block, after: Block) -> str | bool:
         """Counts what one line of the script was answered in both runs. Says why, if an
         answer can't be of that line."""
-        was = by_key(before.copies)
+        was = by_key(before.copies) if before.copies else NOTHING
         now = was if before.copies == after.copies else by_key(after.copies)
         said = was or now or before.reason or after.reason or before.refused or after.refused
         if said or self.reasons:
@@ -69,9 +74,9 @@ class Losses:
                 entry.no_longer.update([was] if was else [])
 
     def add_copies(self, was: Grouped, now: Grouped) -> None:
-        for key in was.keys() | now.keys():
-            entry = self.copies[self.who(key[0]), self.gathered(key[1])]
-            old, new = was.get(key, []), now.get(key, [])
+        for key in was if now is was else was.keys() | now.keys():
+            entry = self.entry(key)
+            old, new = was.get(key, NONE), now.get(key, NONE)
             entry.before += len(old)
             entry.after += len(new)
             if old is not new:
@@ -79,6 +84,15 @@ class Losses:
                 entry.lost += lost
                 entry.gained += gained
                 entry.changed += changed
+
+    def entry(self, key: Key) -> Copies:
+        """That of a client and a topic; without `reasons` it is the same each time."""
+        found = None if self.reasons else self.entries.get(key)
+        if found is None:
+            found = self.copies[self.who(key[0]), self.gathered(key[1])]
+            if len(self.entries) < REMEMBERED:
+                self.entries[key] = found
+        return found
 
     def subject(self, command: Command) -> Row:
         """Whom a refusal concerns: the client, and the topic or filter, or
@@ -153,12 +167,13 @@ def compare_lines(losses: Losses, script: str, commands: BinaryIO, runs: list[Ru
 
 def compare_line(losses: Losses, text: bytes, runs: list[Run], number: int) -> str:
     """Counts one line of the script. Says why, if the outputs can't be of this script."""
-    before, after = here = [run.take(number) for run in runs]
+    before, after = runs[0].take(number), runs[1].take(number)
     if is_blank(text):
-        names = [run.name for run, block in zip(runs, here) if block]
+        names = [run.name for run, block in zip(runs, (before, after)) if block]
         return blank_answered(names[0]) if names else ""
     if before is None or after is None:
-        return unanswered([run.name for run, block in zip(runs, here) if block is None])
+        names = [run.name for run, block in zip(runs, (before, after)) if block is None]
+        return unanswered(names)
     why = losses.add(text, before, after)
     return f"an output is of another script: {why}" if why else ""
 

@@ -13,13 +13,14 @@ Command = dict[str, Any]  # a line of a script, as JSON has it
 Answer = dict[str, Any]  # and one of an output
 Key = tuple[str, str]  # client and topic
 COPY = '{"client":'  # mqroute prints names in ascending order: a copy alone begins so
-ACCEPTED = re.compile(r'\{"line":(\d+),"reason":(\d+)\}$')
-REFUSED = re.compile(r'\{"code":\d+,"line":(\d+),"refused":"([A-Za-z]+)"\}$')
+# a closing line or a refusal, but that of a `stat`
+CLOSING = re.compile(r'\{(?:"code":\d+,)?"line":(\d+),"re(?:ason":(\d+)|fused":"([A-Za-z]+)")\}$')
 TEXT = r'[^"\\\x00-\x1f]*'  # a text of JSON without escapes
+# a copy without escapes: its client, payload, QoS, RETAIN, group and topic
 PLAIN = re.compile(
     rf'\{{"client":"({TEXT})"(?:,"expiry":\d+)?(?:,"filter":"{TEXT}")?(?:,"ids":\[[\d,]*\])?'
-    rf',"line":\d+,"payload":"{TEXT}",'
-    rf'"qos":[012],"retain":(?:true|false)(?:,"share":"{TEXT}")?,"topic":"({TEXT})"\}}\n')
+    rf',"line":\d+,"payload":"({TEXT})",'
+    rf'"qos":([012]),"retain":(true|false)(?:,"share":"({TEXT})")?,"topic":"({TEXT})"\}}\n')
 # of other commands 0, and of a subscribe its QoS
 REASONS = {"publish": (0, 16), "unsubscribe": (0, 17)}
 SHOWN = 60  # characters of a line
@@ -79,12 +80,10 @@ def no_answer(text: str, number: int) -> str:
 
 def closed(text: str, copies: list[str]) -> Block:
     """The answer that a closing line ends."""
-    found = ACCEPTED.match(text)
+    found = CLOSING.match(text)
     if found:
-        return Block(int(found[1]), copies, int(found[2]), None, text)
-    found = REFUSED.match(text)
-    if found:
-        return Block(int(found[1]), copies, None, found[2], text)
+        line, reason, refused = found.groups()
+        return Block(int(line), copies, int(reason) if reason else None, refused, text)
     end = read_json(text)
     accepted = "reason" in end or "nodes" in end
     return Block(int(end["line"]), copies, end.get("reason"),
@@ -97,7 +96,7 @@ def by_key(copies: list[str], name: str = "the output") -> defaultdict[Key, list
     match = PLAIN.fullmatch
     for text in copies:
         plain = match(text)
-        found[(plain[1], plain[2]) if plain else key_of(text, name)].append(text)
+        found[(plain[1], plain[6]) if plain else key_of(text, name)].append(text)
     return found
 
 
