@@ -16,6 +16,7 @@ import acl_lists as lists
 
 ENOUGH = 5.0  # seconds of one run after which it isn't repeated
 LIMIT = 60  # seconds after which one is stopped
+PLANT = "the plant of `examples/topic-plan`"
 
 
 def subscribes(users: list[str | None], filters: list[str]) -> list[str]:
@@ -77,6 +78,7 @@ def questions() -> list[tuple[str, str, list[str], list[str] | None]]:
         ("compare", "160 lines of one name at four levels, reversed",
          *hard(lists.one_named(160, 4))),
         ("compare --plan", "100 rules, 1,100 lines, 100 users", *lists.replanned(100)),
+        ("compare --plan", PLANT, *lists.plant()),
         ("lint", "10,000 lines, 1,000 users", plant, None),
         ("lint", "a service user of 800 lines, 1,027 in all", service, None),
         ("lint", "11,006 lines, 1,000 users", many, None),
@@ -96,12 +98,13 @@ def questions() -> list[tuple[str, str, list[str], list[str] | None]]:
     ]
 
 
-def words_of(program: str, question: str, old: pathlib.Path, second: pathlib.Path,
+def words_of(program: str, question: str, what: str, old: pathlib.Path, second: pathlib.Path,
              asked: list[str] | None) -> list[str]:
     """The words of a question about the list in the first file."""
     if question == "compare --plan":
         plan = old.parent / "plan"
-        plan.write_text("\n".join(lists.plan()) + "\n")
+        rules = lists.plant_plan() if what == PLANT else lists.plan()
+        plan.write_text("\n".join(rules) + "\n")
         return [program, "compare", "--rules", "own", "--plan", str(plan), str(old), str(second)]
     if question == "who" and asked is not None:
         return [program, "who", str(old), asked[0]]
@@ -153,7 +156,7 @@ def main() -> int:
             old.write_text("\n".join(rows) + "\n")
             if second is not None:
                 other.write_text("\n".join(second) + "\n")
-            words = words_of(program, question, old, other, second)
+            words = words_of(program, question, what, old, other, second)
             print(f"| {question} | {what} | {measured(words)} |", flush=True)
     return 0
 

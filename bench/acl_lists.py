@@ -1,6 +1,9 @@
 """Access lists that the bench asks questions of: as operators have them, long ones, and some that
 are made to be hard."""
+import pathlib
 import random
+
+PLANT = pathlib.Path(__file__).resolve().parent.parent / "examples/topic-plan"
 
 List = list[str]
 Pair = tuple[List, List]
@@ -128,3 +131,16 @@ def replanned(users: int) -> Pair:
             old.append(f"topic {access} {before}")
             new.append(f"topic {access} {after}")
     return old, new
+
+
+def lines_of(name: str) -> List:
+    return (PLANT / name).read_text(encoding="utf-8").splitlines()
+
+
+def plant() -> Pair:
+    """The list of a plant of 29 rules and 20 users, and the one by its new names."""
+    return lines_of("current.acl"), lines_of("by-hand.acl")
+
+
+def plant_plan() -> List:
+    return lines_of("plan")

@@ -33,15 +33,15 @@ users_short c is user h =
         (sym (ap (λ b. b || is_user_of user (row_views c.new.now)) e) ∙ k)
 
 pub short_question : (plan : List PlanRule) (region : Region) (client : List ℕ) (rows : List Row)
-    → IsPart plan region → IsClient client → long_line rows ≡ None
+    → IsPart plan region → IsClient client → has_long_row (row_views rows) ≡ false
     → is_long_question region client rows ≡ false
 short_question plan region client rows part is h =
     or_from (is_long client || has_long (region_levels region)) (has_long_filter rows)
     (or_from (is_long client) (has_long (region_levels region)) is.short part.of.short)
-    (short_filters rows (none_long rows h))
+    (short_filters rows h)
 
 pub not_too_long : (plan : List PlanRule) (region : Region) (client : List ℕ) (rows : List Row)
-    → IsPart plan region → IsClient client → long_line rows ≡ None
+    → IsPart plan region → IsClient client → has_long_row (row_views rows) ≡ false
     → IsFault TooLong (is_long_question region client rows) → ⊥
 not_too_long plan region client rows part is h e =
     let q : false ≡ true = sym (short_question plan region client rows part is h) ∙ e in cc
@@ -61,3 +61,10 @@ compare_stops old new steps (comparison.OldMark line) h k is =
 compare_stops old new steps (comparison.NewMark line) h k is =
     let q : None ≡ Some line = is in absurd (cc)
 compare_stops old new steps (comparison.GaveUp side line others) h k is = tt
+
+-- rows that are left of a list without long rows
+pub kept_short : (all kept rows : List Row) → long_line all ≡ None
+    → (has_long_row (row_views all) ≡ false → has_long_row (row_views kept) ≡ false)
+    → rows ≡ kept → has_long_row (row_views rows) ≡ false
+kept_short all kept rows h f e =
+    ap (λ (rs : List Row). has_long_row (row_views rs)) e ∙ f (none_long all h)

@@ -18,7 +18,7 @@ use Rattle.mq_acl.specs.Views.{row_views}
 use Rattle.mq_regions.specs.Deciding.{decides, first_line}
 use Rattle.mq_regions.specs.Regions.{in_region, name_in}
 use Rattle.mq_regions.specs.declared.region.Region.{Region}
-use Rattle.mq_through.specs.Made.{IsClient, IsMade, SameRows}
+use Rattle.mq_through.specs.Made.{AreAlike, IsClient, IsMade}
 use Rattle.mq_through.specs.Parts.{IsPart}
 use Rattle.mq_through.specs.Through.{IsQuestion, Question, changes, is_shown_of, new_allows}
 use Rattle.mq_through.specs.Through.{new_reason, old_allows, old_reason, rule_line, same_line}
@@ -27,35 +27,6 @@ use Rattle.mq_through.specs.declared.lists.Comparison.{Comparison}
 use Rattle.mq_through.specs.declared.made.Made.{Made}
 use Rattle.mq_through.specs.declared.renamed.Renamed.{Renamed}
 use Rattle.mq_through.proofs.ReasonLemmas.{allows_by_reason, same_by_lines}
-
-first_same : (p : Access → Bool) (x : List ℕ) (u : Option (List ℕ)) (n : List ℕ)
-    (rows others : List Row) → SameRows rows others
-    → first_line p x u n rows ≡ first_line p x u n others
-first_same p x u n [] [] same = refl
-first_same p x u n [] (b ∷ rest_b) same = absurd (let e = ap length same.0 in omega arith)
-first_same p x u n (a ∷ rest_a) [] same = absurd (let e = ap length same.0 in omega arith)
-first_same p x u n (a ∷ rest_a) (b ∷ rest_b) same =
-    (λ i. option_map (λ (row : Row). row.line) (cond (tests (view i)) (Some a)
-    (find (decides p x u n) rest_a)))
-    ∙ at (tests (row_view b)) (first_same p x u n rest_a rest_b rest)
-  where
-    tests : AclRow → Bool
-    tests row = concerns x u n row && p row.access
-
-    view : row_view a ≡ row_view b
-    view = let e = same.0 in cc
-
-    line : a.line ≡ b.line
-    line = let e = same.1 in cc
-
-    rest : SameRows rest_a rest_b
-    rest = (let e = same.0 in cc, let e = same.1 in cc)
-
-    at : (t : Bool) → first_line p x u n rest_a ≡ first_line p x u n rest_b
-        → option_map (λ (row : Row). row.line) (cond t (Some a) (find (decides p x u n) rest_a))
-        ≡ option_map (λ (row : Row). row.line) (cond t (Some b) (find (decides p x u n) rest_b))
-    at true behind = ap Some line
-    at false behind = behind
 
 -- the same question of another client
 asked_by : List ℕ → Question → Question
@@ -78,12 +49,11 @@ shown_for k way q old new all = list_any (λ r. is_in (row_views k.old.now) (row
 
 pub shown_again : (k : Comparison) (region : Region) (b c : List ℕ) (m n : Made)
     (all : List Renamed) → IsPart k.plan.now region → IsClient b → IsMade k region b m
-    → IsMade k region c n → SameRows m.old.items n.old.items → SameRows m.new.items n.new.items
+    → IsMade k region c n → AreAlike region m n
     → ShowsChangesIn k.plan.now k.old.now k.new.now region b all
     → ShowsChangesIn k.plan.now k.old.now k.new.now region c all
 unfolding asked_by shown_for
-shown_again k region b c m n all part can made made_c same_old same_new shows way q asked is inside
-    changed =
+shown_again k region b c m n all part can made made_c alike shows way q asked is inside changed =
     (λ i. shown_for k way q (old_is i) (new_is i) all)
     ∙ shows way (asked_by b q) (record {
       client = can.id;
@@ -99,14 +69,14 @@ shown_again k region b c m n all part can made made_c same_old same_new shows wa
         ≡ first_line p b q.user q.topic k.old.now
     old_lines p = ap (λ (x : List ℕ). first_line p x q.user q.topic k.old.now) is
         ∙ sym (made_c.old_list.same c q.topic q.topic q.user p asked.topic inside refl)
-        ∙ sym (first_same p c q.user q.topic m.old.items n.old.items same_old)
+        ∙ sym (alike.old_lines c q.topic q.user p asked.topic inside)
         ∙ made.old_list.same c q.topic q.topic q.user p asked.topic inside refl
 
     new_lines : (p : Access → Bool) → first_line p q.client q.user q.name k.new.now
         ≡ first_line p b q.user q.name k.new.now
     new_lines p = ap (λ (x : List ℕ). first_line p x q.user q.name k.new.now) is
         ∙ sym (made_c.new_list.same c q.topic q.name q.user p asked.topic inside named)
-        ∙ sym (first_same p c q.user q.topic m.new.items n.new.items same_new)
+        ∙ sym (alike.new_lines c q.topic q.user p asked.topic inside)
         ∙ made.new_list.same c q.topic q.name q.user p asked.topic inside named
 
     old_is : old_reason k.old.now q ≡ old_reason k.old.now (asked_by b q)
@@ -126,8 +96,8 @@ shown_again k region b c m n all part can made made_c same_old same_new shows wa
 -- so it is of the lists that were made last
 pub tried_again : (k : Comparison) (region : Region) (last : Option Made) (c : List ℕ) (n : Made)
     (all : List Renamed) → IsPart k.plan.now region → IsTried k region last all
-    → IsLastMade last n → IsMade k region c n
+    → IsLastMade region last n → IsMade k region c n
     → ShowsChangesIn k.plan.now k.old.now k.new.now region c all
 tried_again k region None c n all part tried same made = absurd same
 tried_again k region (Some m) c n all part tried same made =
-    shown_again k region tried.0 c m n all part tried.1 tried.2 made same.0 same.1 tried.3
+    shown_again k region tried.0 c m n all part tried.1 tried.2 made same tried.3

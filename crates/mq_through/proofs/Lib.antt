@@ -11,7 +11,6 @@ mod AddLemmas
 mod FaultLemmas
 mod LeftLemmas
 mod LoopLemmas
-mod SameLemmas
 mod LastLemmas
 mod EveryLemmas
 mod MoveLemmas
@@ -24,3 +23,5 @@ mod TriedLemmas
 mod NamedLemmas
 mod StandLemmas
 mod FoundLemmas
+mod NeededLemmas
+mod IdleLemmas

@@ -37,6 +37,23 @@ first_append p x u n xs ys =
     ap (option_map (λ row. row.line)) (find-append (decides p x u n) xs ys)
     ∙ or_map (find (decides p x u n) xs) (find (decides p x u n) ys)
 
+-- of a row only its line and what it says matter
+pub one_line : (p : lines.Access → Bool) (x : List ℕ) (u : Option (List ℕ)) (n : List ℕ)
+    (row other : Row) → row.line ≡ other.line → row_view row ≡ row_view other
+    → first_line p x u n (row ∷ []) ≡ first_line p x u n (other ∷ [])
+one_line p x u n row other line view =
+    at (tests (row_view row)) (tests (row_view other)) (ap tests view)
+  where
+    tests : AclRow → Bool
+    tests r = concerns x u n r && p r.access
+
+    at : (a b : Bool) → a ≡ b → option_map (λ (r : Row). r.line) (cond a (Some row) None)
+        ≡ option_map (λ (r : Row). r.line) (cond b (Some other) None)
+    at true true e = ap Some line
+    at false false e = refl
+    at true false e = absurd (let q : true ≡ false = e in cc)
+    at false true e = absurd (let q : false ≡ true = e in cc)
+
 -- rows that don't concern the name don't decide
 pub first_none : (p : lines.Access → Bool) (x : List ℕ) (u : Option (List ℕ)) (n : List ℕ)
     (rows : List Row) → list_any (concerns x u n) (row_views rows) ≡ false

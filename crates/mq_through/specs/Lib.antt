@@ -5,3 +5,4 @@ pub mod Parts
 pub mod Made
 pub mod Tried
 pub mod Clients
+pub mod Needed

@@ -6,7 +6,7 @@ use Rattle.mq_topic.specs.Texts.{is_name}
 use Rattle.mq_acl.specs.Access.{rows_allow}
 use Rattle.mq_acl.specs.Lines as lines
 use Rattle.mq_acl.specs.Rows.{Named, AclRow}
-use Rattle.mq_acl.specs.Views.{line_views, row_views}
+use Rattle.mq_acl.specs.Views.{row_views}
 use Rattle.mq_acl.specs.declared.access.Direction.{Direction}
 use Rattle.mq_acl.specs.declared.row.Row.{Row}
 use Rattle.mq_rename.specs.Lists.{is_long}
@@ -84,9 +84,15 @@ pub record IsMade (k : Comparison) (region : Region) (client : List ℕ) (m : Ma
   pub new_list : IsList region (asks_new region) client k.new.now m.new.items
   pub names : Names k.users.items m.old.items
 
--- both have the same rows, with the same lines
-abbrev pub SameRows : (rows others : List Row) → Type 0
-SameRows rows others = (row_views rows ≡ row_views others) × (line_views rows ≡ line_views others)
+-- the first lines of both that decide about a topic of the region are the same
+abbrev pub DecideAlike : Region → (rows others : List Row) → Type 0
+DecideAlike region rows others = (x n : List ℕ) (user : Option (List ℕ))
+    (p : lines.Access → Bool) → is_name n ≡ true → in_region region n ≡ true
+    → first_line p x user n rows ≡ first_line p x user n others
+
+pub record AreAlike (region : Region) (made other : Made) : Type 0 where
+  pub old_lines : DecideAlike region made.old.items other.old.items
+  pub new_lines : DecideAlike region made.new.items other.new.items
 
 -- no user name is long
 abbrev pub AreShort : List (Bor (List ℕ)) → Type 0

@@ -8,7 +8,7 @@ use Rattle.mq_plan.specs.declared.rule.PlanRule.{PlanRule}
 use Rattle.mq_regions.specs.Regions.{in_region}
 use Rattle.mq_regions.specs.declared.region.Region.{Region}
 use Rattle.mq_witness.specs.Literals.{is_among}
-use Rattle.mq_through.specs.Made.{IsClient, IsMade, SameRows}
+use Rattle.mq_through.specs.Made.{AreAlike, IsClient, IsMade}
 use Rattle.mq_through.specs.Through.{AreApart, IsQuestion, IsReal}
 use Rattle.mq_through.specs.Through.{Question, is_changed, is_shown_of}
 use Rattle.mq_through.specs.declared.lists.Comparison.{Comparison}
@@ -31,11 +31,10 @@ ShowsChangesIn plan old new region client all = (way : Way) (q : Question) → I
     → q.client ≡ client → in_region region q.topic ≡ true → is_changed way old new q ≡ true
     → list_any (is_shown_of plan old new way q) all ≡ true
 
--- the last lists have the rows of these
-abbrev pub IsLastMade : (last : Option Made) → Made → Type 0
-IsLastMade None made = ⊥
-IsLastMade (Some last) made =
-    SameRows last.old.items made.old.items × SameRows last.new.items made.new.items
+-- the last lists decide in the region as these do
+abbrev pub IsLastMade : Region → (last : Option Made) → Made → Type 0
+IsLastMade region None made = ⊥
+IsLastMade region (Some last) made = AreAlike region last made
 
 -- they were made for a client for whom whatever changes in the region is shown
 abbrev pub IsTried : Comparison → Region → (last : Option Made) → List Renamed → Type 0

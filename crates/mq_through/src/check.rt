@@ -21,7 +21,7 @@ pub(crate) fn is_mark(text: &str) -> bool
     text == "%c" || text == "%u"
 }
 
-fn has_mark(text: &str) -> bool
+pub(crate) fn has_mark(text: &str) -> bool
     ensures { result ≡ has_mark (levels text.now) }
 {
     text.split('/').any(|level| is_mark(level))

@@ -9,8 +9,10 @@ ghost use Rattle.mq_witness.specs.Rows.{is_name_of, is_user_of};
 ghost use Rattle.mq_regions.specs.Regions.{region_levels};
 ghost use Rattle.mq_through.specs.Made.{AreShort, Asks, IsClient, IsComparison, IsList, Names};
 ghost use Rattle.mq_through.specs.Made.{asks_new, asks_old, spare_row};
+ghost use Rattle.mq_through.specs.Needed.{AreNeeded};
 ghost use Rattle.mq_through.specs.Parts.{IsPart};
 
+use crate::needed::Needed;
 use mq_acl::{Access, Owner, Row};
 use mq_plan::Plan;
 use mq_regions::{Region, new_rows, old_rows};
@@ -123,16 +125,18 @@ pub(crate) fn made_of_old(
     alloc: Global,
     comparison: &Comparison,
     region: &Region,
+    needed: &Needed,
     client: &str,
 ) -> Result<Vec<Row>, AllocError>
     requires comparison { IsComparison comparison.now }
+    requires needed { AreNeeded comparison.now region.now needed.now }
     requires region { IsPart comparison.now.plan.now region.now }
     requires client { IsClient client.now }
     ensures list { IfOk result (λ made.
         IsList region.now asks_old client.now comparison.now.old.now made.items) }
     ensures names { IfOk result (λ made. Names comparison.now.users.items made.items) }
 {
-    match old_rows(alloc, region, client, comparison.old) {
+    match old_rows(alloc, region, client, &needed.old) {
         Ok(rows) => {
             let made = with_users(alloc, rows, region, &comparison.users)?;
             Ok(made)
@@ -147,16 +151,18 @@ pub(crate) fn made_of_new(
     alloc: Global,
     comparison: &Comparison,
     region: &Region,
+    needed: &Needed,
     client: &str,
 ) -> Result<Vec<Row>, AllocError>
     requires comparison { IsComparison comparison.now }
+    requires needed { AreNeeded comparison.now region.now needed.now }
     requires region { IsPart comparison.now.plan.now region.now }
     requires client { IsClient client.now }
     ensures list { IfOk result (λ made.
         IsList region.now (asks_new region.now) client.now comparison.now.new.now made.items) }
     ensures names { IfOk result (λ made. Names comparison.now.users.items made.items) }
 {
-    match new_rows(alloc, region, client, comparison.new) {
+    match new_rows(alloc, region, client, &needed.new) {
         Ok(rows) => {
             let made = with_users(alloc, rows, region, &comparison.users)?;
             Ok(made)

@@ -9,6 +9,7 @@ ghost use Rattle.mq_regions.specs.Limits.{has_long_row};
 ghost use Rattle.mq_through.specs.Checks.{IsThroughFault};
 ghost use Rattle.mq_through.specs.Made.{HasRule, IsClient, IsComparison, IsNameFault, IsRenamed};
 ghost use Rattle.mq_through.specs.Made.{IsCompareStop, IsMade, IsStop, class_in};
+ghost use Rattle.mq_through.specs.Needed.{AreNeeded};
 ghost use Rattle.mq_through.specs.Parts.{AreParts, IsPart};
 ghost use Rattle.mq_through.specs.Through as through;
 ghost use Rattle.mq_through.specs.Tried.{AreClients, Grows, IsLastMade, IsTried, ShowsChangesIn};
@@ -19,11 +20,12 @@ use crate::like::add;
 use crate::lists::{Comparison, has_user};
 use crate::made::Made;
 use crate::made_up::unnamed_texts;
+use crate::needed::Needed;
 use crate::renamed::Renamed;
 use mq_acl::{Row, Rules};
 use mq_findings::{Class, ComparisonFault, Difference, compare};
 use mq_regions::Region;
-use std::alloc::Global;
+use std::alloc::{AllocError, Global};
 use std::mem;
 
 fn class_of_user(users: &[&str], name: String) -> Class
@@ -140,28 +142,37 @@ fn add_client(
     Ok(())
 }
 
-// Whether these lists were made last, for another client.
-fn is_last(last: Option<&Made>, made: &Made) -> bool
-    ensures { result ≡ true → IsLastMade (option_copied last.entry) made.now }
+// Whether the lists that were made last, for another client, decide in the region as these do.
+fn is_last(
+    alloc: Global,
+    region: &Region,
+    last: Option<&Made>,
+    made: &Made,
+) -> Result<bool, AllocError>
+    ensures { IfOk result (λ is. is ≡ true
+        → IsLastMade region.now (option_copied last.entry) made.now) }
 {
-    match last {
-        Some(last) => last.is_same(made),
-        None => false,
-    }
+    let Some(last) = last else {
+        return Ok(false);
+    };
+    let alike = last.is_alike(alloc, region, made)?;
+    Ok(alike)
 }
 
-// Adds what changes for the next client in the region. Where the lists that are made for it are the
-// last ones, that was added.
+// Adds what changes for the next client in the region. Where the lists that are made for it decide as
+// the last ones do, that was added.
 fn add_next(
     alloc: Global,
     found: &mut Vec<Renamed>,
     comparison: &Comparison,
     region: &Region,
+    needed: &Needed,
     client: &str,
     last: Option<&Made>,
 ) -> Result<Made, ThroughFault>
     requires comparison { IsComparison comparison.now }
     requires region { IsPart comparison.now.plan.now region.now }
+    requires needed { AreNeeded comparison.now region.now needed.now }
     requires client { IsClient client.now }
     requires last { IsTried comparison.now region.now (option_copied last) found.old.items }
     ensures grows { OnOk result (Grows comparison.now.plan.now comparison.now.old.now
@@ -172,8 +183,8 @@ fn add_next(
     ensures fault { IfErr result (IsThroughFault comparison.now.plan.now comparison.now.old.now
         comparison.now.new.now) }
 {
-    let made = Made::of(alloc, comparison, region, client)?;
-    if is_last(last, &made) {
+    let made = Made::of(alloc, comparison, region, needed, client)?;
+    if is_last(alloc, region, last, &made)? {
         return Ok(made);
     }
     add_client(alloc, found, comparison, region, client, &made)?;
@@ -198,9 +209,18 @@ fn add_region(
     ensures fault { IfErr result (IsThroughFault comparison.now.plan.now comparison.now.old.now
         comparison.now.new.now) }
 {
+    let needed = Needed::of(alloc, comparison, region)?;
     let mut last: Option<Made> = None;
     for client in clients {
-        let made = add_next(alloc, found, comparison, region, client, last.as_ref())?;
+        let made = add_next(
+            alloc,
+            found,
+            comparison,
+            region,
+            &needed,
+            client,
+            last.as_ref(),
+        )?;
         last = Some(made);
     }
     Ok(())
