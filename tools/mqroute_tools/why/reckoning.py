@@ -7,6 +7,7 @@ from typing import Any
 from ..common.tables import shown
 from ..script.access_list import Verdict
 from ..script.output import Block, Command
+from ..script.text_faults import name_fault, text_fault
 from . import causes, wording
 from .access import Access, may
 from .causes import Answer, Cause
@@ -94,8 +95,8 @@ class Reckoning:
     def first_refusal(self) -> tuple[str, str, Verdict | None]:
         """By the order of the definition, and why."""
         line, client, topic = self.publish.line, self.publish.client, self.publish.topic
-        session, fault = self.history.sessions.get(client), wording.name_fault(topic)
-        if not wording.can_be_id(client):
+        session, fault = self.history.sessions.get(client), name_fault(topic)
+        if text_fault(client):
             return "ClientId", "no client has such an id", None
         if session is None or session.left:
             return "NotConnected", f"{shown(client)}: {self.absence(client)}", None
