@@ -3,6 +3,7 @@ import gzip
 import unittest
 
 from test_files import BEFORE, LOG, RECORDED, SCRIPT, Case
+from mqroute_tools.common.messages import named
 from mqroute_tools.log.time_stamps import LOOKED_AT, Stamps
 from mqroute_tools.script.file_kinds import OF_MOSQUITTO, kind
 
@@ -44,7 +45,8 @@ class Logs(Case):
         for words in (["log"], ["-"], ["--no-inference", "-"]):
             with open(self.folder / "log") as stream:
                 done = self.run_tool("log_to_script", *options, *words, input=None, stdin=stream)
-            self.refused(done, f"log_to_script: {words[-1]}: {said}")
+            name = named(words[-1])
+            self.refused(done, f"log_to_script: {name}: {said}")
         done = self.run_tool("compare_log", *options, "log", "before")
         self.refused(done, f"compare_log: log: {said}")
 

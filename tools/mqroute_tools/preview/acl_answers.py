@@ -4,6 +4,7 @@ import json
 from collections import Counter
 from collections.abc import Iterator
 
+from ..common.messages import named
 from ..common.programs import output_of
 from ..script.access_list import AccessList, Line
 from .findings import Client, Deciding, Json, Remark, Right, Subscription
@@ -21,7 +22,7 @@ class Lists:
         self.current = AccessList(current, rules)
         self.proposed = AccessList(proposed, rules)
         self.rules = rules
-        self.names = {one.path: one.name for one in (self.current, self.proposed)}
+        self.names = {one.path: named(one.name) for one in (self.current, self.proposed)}
 
     def asked(self, subcommand: str, words: list[str], quiet: bool = True) -> Asked:
         """Raises Fault where mqroute-acl ends with another status than 0 and 1."""

@@ -3,7 +3,7 @@ import time
 from collections.abc import Iterator
 
 from ..common.files import whole
-from ..common.messages import counted
+from ..common.messages import counted, named
 from ..common.page_frame import ENDING, beginning
 from ..losses.html_escape import escaped
 from .findings import Preview
@@ -56,7 +56,7 @@ def section(head: str, inside: str) -> str:
 
 
 def file(name: str) -> str:
-    return f"<bdi class='file'>{escaped(name)}</bdi>"
+    return f"<bdi class='file'>{escaped(named(name))}</bdi>"
 
 
 def about(found: Preview) -> str:

@@ -2,7 +2,7 @@
 from collections.abc import Iterable, Iterator
 
 from ..common.files import at
-from ..common.messages import counted
+from ..common.messages import counted, named
 from ..losses.html_escape import escaped, visible
 from ..losses.script_lines import script_lines
 from ..script.access_list import Line
@@ -124,7 +124,7 @@ def topic_list(topics: Iterable[Topics], before: str) -> str:
 
 
 def place(name: str, line: Line | None) -> str:
-    return f"<bdi>{escaped(name if line is None else at(name, line.line))}</bdi>"
+    return f"<bdi>{escaped(named(name) if line is None else at(name, line.line))}</bdi>"
 
 
 def line_text(line: Line | None) -> str:

@@ -4,6 +4,7 @@ from collections.abc import Callable, Iterable, Iterator
 from typing import TypeVar
 
 from ..common.files import at
+from ..common.messages import named
 from ..common.tables import shown
 from ..common.terminal import BOLD, DIM, GREEN, RED, Terminal
 from ..script.access_list import Line
@@ -30,6 +31,8 @@ def report(found: Preview, out: Terminal) -> str:
 class Report:
     def __init__(self, found: Preview, out: Terminal) -> None:
         self.found, self.out = found, out
+        self.current, self.proposed = (
+            shown(named(name)) for name in (found.current, found.proposed))
 
     def text(self) -> str:
         found = self.found
@@ -45,7 +48,7 @@ class Report:
              self.first(found.taken, self.right)),
             ("Subscriptions that can receive nothing any more",
              self.first(found.subscriptions, self.subscription)),
-            (f"New remarks on {shown(found.proposed)}", self.first(found.remarks, self.remark))]
+            (f"New remarks on {self.proposed}", self.first(found.remarks, self.remark))]
         for title, lines in sections:
             body = list(lines)
             parts += ["\n".join([self.out.painted(BOLD, title), *body])] if body else []
@@ -56,9 +59,9 @@ class Report:
 
     def head(self) -> str:
         found = self.found
-        sources = ", ".join(map(shown, found.sources))
+        sources = ", ".join(shown(named(name)) for name in found.sources)
         return "\n".join(self.out.wrapped(
-            f"{shown(found.proposed)} in place of {shown(found.current)}, tried on {sources}: "
+            f"{self.proposed} in place of {self.current}, tried on {sources}: "
             f"{tried(found)}"))
 
     def first(self, rows: list[Row], shows: Callable[[Row], Iterable[str]]) -> Iterator[str]:
@@ -143,7 +146,7 @@ class Report:
         if one.line is None:
             yield from self.out.wrapped(one.words, "  ", "      ")
             return
-        place = at(shown(self.found.proposed), one.line)
+        place = at(self.proposed, one.line)
         yield from self.out.fitted([place, shown((one.text or "").strip())], "  ")
         yield from self.dim(one.words, "      ")
 
@@ -155,5 +158,5 @@ def listed(name: str) -> str:
 
 def side(name: str, line: Line | None) -> tuple[str, str]:
     if line is None:
-        return shown(name), NO_LINE
+        return shown(named(name)), NO_LINE
     return at(shown(name), line.line), shown(line.text.strip())

@@ -3,6 +3,7 @@ import json
 import re
 
 from ..common.exit_status import Fault
+from ..common.messages import named
 from .syslog import PREFIX
 
 HEAD = 1 << 14  # bytes that are looked at
@@ -93,6 +94,7 @@ def is_empty(head: bytes) -> bool:
 
 def wrong(name: str, head: bytes, lacks: str, hints: dict[str, str] = {}) -> Fault:
     """That another file was wanted: what this one lacks, what it looks like, its first line."""
+    name = named(name)
     if is_empty(head):
         return Fault(f"{name}: {'empty' if not head else 'blank'}: {lacks}")
     what = kind(head)

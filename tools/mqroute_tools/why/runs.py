@@ -4,6 +4,7 @@ import json
 from collections.abc import Iterable, Mapping
 
 from ..common.exit_status import Fault
+from ..common.messages import named
 from ..script.access_list import AccessList
 from ..script.oracle import answers, found_program
 from ..script.output import Block, Command
@@ -37,7 +38,7 @@ class Runs:
         except Fault as fault:
             if self.given is None:
                 raise
-            raise Fault(str(fault).replace(self.given.path, self.given.name)) from fault
+            raise Fault(str(fault).replace(self.given.path, named(self.given.name))) from fault
 
     def all(self) -> dict[int, Block]:
         """The answers to the script, by its lines."""
