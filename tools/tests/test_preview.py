@@ -283,6 +283,14 @@ class Files(Case):
         done = self.shown("-", "new.acl", "script", input=CURRENT).stdout
         self.assertIn("        standard input:6  topic read plant/+/energy\n", done)
 
+    def test_comment_in_front(self):
+        """A script all the same: mqroute refuses the line."""
+        for front in ("\n", "# a day\n"):
+            self.write("script", front + text_of(SCRIPT))
+            done = self.shown(*self.LISTS, "script")
+            self.assertEqual((done.returncode, done.stderr.count("lines read")), (1, 0))
+            self.assertIn(f" script {7 + front.count(chr(10))} hq-1\n", done.stdout)
+
     def test_several_logs(self):
         lines = (RECORDED / "plain.log").read_bytes().splitlines(keepends=True)
         for name, part in (("1.log", lines[:2000]), ("2.log", lines[2000:])):

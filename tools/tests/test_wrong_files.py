@@ -19,7 +19,11 @@ class Kinds(unittest.TestCase):
     def test_kinds(self):
         for text, what in ((A_LOG, "a mosquitto log"), (SYSLOG + A_LOG, "a mosquitto log"),
                            (ODD_TIMES, "a mosquitto log"), (SCRIPT, "a script"),
-                           ("\n" + SCRIPT, "a script"), (BEFORE, "an output of mqroute"),
+                           ("\n" + SCRIPT, "a script"),
+                           (" \r\n# a day\n" + SCRIPT, "a script"),
+                           ("// a day\n\n" + SCRIPT, "a script"),
+                           ("# a day\n", ""),
+                           (BEFORE, "an output of mqroute"),
                            (ARRAY, "JSON"), ('{"time":1}\n', "JSON"), (LIST, "an access list"),
                            (SYSLOG, "a log of other programs"), (EMQX, "a log of other programs"),
                            ("", ""), ("x" * 1000, "")):
