@@ -8,6 +8,7 @@ from ..script.output import Block, Command, read_json
 from ..script.sessions import FOREVER
 from ..script.topics import matches, plain_filter
 from .disagreement import Disagreement
+from .references import ref
 
 NOT_KEPT = "and its session isn't kept: Session Expiry Interval 0"
 
@@ -28,7 +29,7 @@ class Subscription:
         return matches(plain_filter(self.filter), topic)
 
     def in_words(self) -> str:
-        return f"line {self.line} {shown(self.filter)}"
+        return f"{ref(self.line)} {shown(self.filter)}"
 
 
 @dataclass
@@ -51,7 +52,7 @@ class Ending:
     how: str
 
     def in_words(self) -> str:
-        return f"line {self.line}: {self.how}"
+        return f"{ref(self.line)}: {self.how}"
 
 
 Lost = tuple[Subscription, Ending]
@@ -151,5 +152,5 @@ class History:
             end, client = heapq.heappop(self.ends)
             session = self.sessions.get(client)
             if session and session.end == end:
-                how = f"it had been away since line {session.left}, and its session expired"
+                how = f"it had been away since {ref(session.left)}, and its session expired"
                 self.finish(client, Ending(number, how))
