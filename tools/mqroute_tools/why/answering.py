@@ -23,7 +23,7 @@ def answered(asked: Question, given: AccessList | None,
              options: argparse.Namespace) -> list[Answer]:
     """Of the client, or of each that has connected by the line."""
     runs = Runs(options, asked.script, given)
-    blocks = runs.all()
+    blocks = runs.all(asked.line)
     publish = Publish(asked.line, asked.publish, block_of(asked, blocks))
     history = History()
     for place in asked.script.accepted(blocks, 1, asked.line - 1):

@@ -10,6 +10,7 @@ from ..script.topics import matches, plain_filter
 from .disagreement import Disagreement
 from .references import ref
 
+GROUP = '"share":'  # what the copy of a group has
 NOT_KEPT = "and its session isn't kept: Session Expiry Interval 0"
 
 
@@ -136,7 +137,7 @@ class History:
 
     def turn(self, number: int, block: Block) -> None:
         for text in block.copies:
-            copy = read_json(text) if '"share":' in text else {}
+            copy = read_json(text) if GROUP in text else {}
             if "share" in copy:  # and not in another text alone
                 self.serve(number, copy["client"], f"$share/{copy['share']}/{copy['filter']}")
 
