@@ -1,5 +1,6 @@
 """What a proposed list and a topic plan would change together: beside mqroute-plan,
 mqroute-who-loses and mqroute-acl."""
+import html
 import json
 import re
 import shlex
@@ -170,6 +171,24 @@ class Renamed(Case):
                      "--html", "plan")
         (self.folder / "old.jsonl").write_text("x")
         self.refused("--keep .: old.jsonl is there already", *self.WORDS, "--keep", ".")
+
+    def test_page(self):
+        """It has the rows of --json, under both names, and says by which plan."""
+        found = self.found(*self.WORDS, "--html", "page.html")
+        page = (self.folder / "page.html").read_text("utf-8")
+        tables = {name: body.count("<tr ") for name, body in re.findall(
+            r"<table id='([a-z-]+)'.*?<tbody[^>]*>(.*?)</tbody>", page, re.S)}
+        self.assertEqual(tables, {
+            "users": 2 * len(found["users"]), "granted": len(found["granted"]),
+            "taken": len(found["taken"]), "in-vain": len(found["subscriptions"]),
+            "carried": len(found["carried"]), "remarks": len(found["remarks"])})
+        self.assertEqual(page.count("<dt><bdi>plan"), len(found["granted"] + found["taken"]))
+        text = html.unescape(re.sub(r"<[^>]*>", "", page))
+        for words in ("topics renamed by plan", "plant/h1/energy → site/h1/meters/energy",
+                      "plant/+/energy → site/+/meters/energy",
+                      "plant/<level>/energy -> site/<level>/meters/energy",
+                      "no line is about it", "plant/h1/count has no new name", found["summary"]):
+            self.assertIn(words, text)
 
     def test_plan_on_standard_input(self):
         words = [word if word != "plan" else "-" for word in self.WORDS]

@@ -44,8 +44,8 @@ def each_answer(words: list[str], script: Iterable[bytes], first: int = 1) -> It
         written.seek(0)
         # no text in an answer has these bytes: its quotes are escaped
         written.seek(place_of(written, b'"line":%d,' % first) if first > 1 else 0)
-        yield from blocks_of(io.TextIOWrapper(written, encoding="utf-8", newline="\n"),
-                             "the answer")
+        with io.TextIOWrapper(written, encoding="utf-8", newline="\n") as lines:
+            yield from blocks_of(lines, "the answer")
 
 
 def place_of(stream: IO[bytes], wanted: bytes) -> int:
