@@ -8,8 +8,10 @@ import tempfile
 import unittest
 from pathlib import Path
 
-from worked import HERE, answers, invalid_lines, scripts, wants_program
-from mqroute_tools.script.commands import COMMANDS, faults, line_faults
+from worked import HERE, TEXT_FAULTS, answers, invalid_lines, scripts, wants_program
+from mqroute_tools.common.messages import named
+from mqroute_tools.script.commands import COMMANDS, faults, line_faults, read_line
+from mqroute_tools.script.text_faults import filter_fault, name_fault, text_faults
 
 SAID = [
     ({"do": "publish", "client": "a", "topic": "x", "payloud": ""},
@@ -47,6 +49,33 @@ TEXTS = [
      "no JSON: half of a surrogate pair stands alone in a text"),
     (b"[" * 128 + b"]" * 128, "no JSON: nested deeper than 127"),
     (b" " * 1_048_577, "1,048,577 bytes, where 1,048,576 may be"),
+]
+# Filters, each with what is wrong; by MQTT 5.0, 4.7.1 and 4.8.2.
+FILTERS = [
+    ("a/#/b", "it has # before its last level"), ("#/", "it has # before its last level"),
+    ("a#", "it has # within a level"), ("a+", "it has + within a level"),
+    ("+#", "it has + within a level"), ("", "it is empty"), ("a\0", "it has U+0000"),
+    ("$share//x", "it has no share name"), ("$share/", "it has no share name"),
+    ("$share/+/x", "its share name has a wildcard"),
+    ("$share/g", "it has no filter behind its share name"),
+    ("$share/g/", "it has no filter behind its share name"),
+    ("$share/g/a#", "it has # within a level"),
+    ("/" * 200, "it has 201 levels, where mqroute takes 200"),
+    ("$share/g" + "/a" * 201, "it has 201 levels, where mqroute takes 200"),
+    ("a" * 65_536, "it has more than 65,535 bytes"),
+    *((text, "") for text in ("#", "+", "/", "a/#", "a/+/b", "$share", "$sharex/a", "/" * 199,
+                              "$share/g/#", "$share/g//", "$share/g" + "/a" * 200, "a" * 65_535))]
+NAMES = [("", "it is empty"), ("a/+", "it has a wildcard"), ("a#", "it has a wildcard"),
+         ("a\0", "it has U+0000"), ("/" * 200, "it has 201 levels, where mqroute takes 200"),
+         ("/", ""), ("$share//x", ""), ("/" * 199, "")]
+TEXT_COMMANDS = [
+    ({"do": "connect", "client": "", "user": "a\0"},
+     ['client is "": it is empty', 'user is "a\\u0000": it has U+0000']),
+    ({"do": "connect", "client": "a", "user": ""}, []),
+    ({"do": "subscribe", "client": "a", "filter": "$share/g/x", "no_local": True},
+     ["no_local is true: a shared subscription has no No Local"]),
+    ({"do": "unsubscribe", "client": "a", "filter": "a" * 65_536},
+     ['filter is "' + "a" * 60 + '..": it has more than 65,535 bytes']),
 ]
 ODD = [b"0", b"1", b"2", b"3", b"-0", b"-1", b"1.0", b"1e0", b"268435455", b"268435456",
        b"4294967295", b"4294967296", b"18446744073709551615", b"18446744073709551616", b"9" * 400,
@@ -91,6 +120,29 @@ class Said(unittest.TestCase):
         for line, said in TEXTS:
             self.assertEqual(line_faults(line), [said])
 
+    def test_filters_and_names(self):
+        for fault_of, cases in ((filter_fault, FILTERS), (name_fault, NAMES)):
+            for text, said in cases:
+                self.assertEqual(fault_of(text), said, text[:40])
+        for command, said in TEXT_COMMANDS:
+            self.assertEqual(list(text_faults(command)), said)
+
+    def test_remark(self):
+        """Of what is answered 17: a fault alone makes the status 1."""
+        script = [{"do": "connect", "client": "c"},
+                  {"do": "subscribe", "client": "c", "filter": "a"},
+                  {"do": "unsubscribe", "client": "c", "filter": "a"},
+                  {"do": "unsubscribe", "client": "c", "filter": "a/b"},
+                  {"do": "disconnect", "client": "c"},
+                  {"do": "unsubscribe", "client": "c", "filter": "a/b"}]
+        text = "".join(json.dumps(command) + "\n" for command in script).encode()
+        remark = ('script:4: remark: "c" hasn\'t subscribed to "a/b", so that this is answered 17, '
+                  'and not refused\n')
+        self.assertEqual(self.run_tool(text, "script"), (0, remark))
+        text += b'{"do":"publish","client":"c","topic":"a/+"}\n'
+        self.assertEqual(self.run_tool(text, "script"),
+                         (1, remark + 'script:7: topic is "a/+": it has a wildcard\n'))
+
     def run_tool(self, script: bytes, *words: str) -> tuple[int, str]:
         with tempfile.TemporaryDirectory() as folder:
             Path(folder, "script").write_bytes(script)
@@ -105,7 +157,7 @@ class Said(unittest.TestCase):
                                         '5: there is no command "ä"'))
             self.assertEqual(self.run_tool(
                 b'{"do":"stat"}\n\n \r\n{"do":"stat","x":1,"y":1}\n{"do":"\xc3\xa4"}', *words),
-                             (1, told.format(*words or "-")))
+                             (1, told.format(named((*words, "-")[0]))))
         self.assertEqual(self.run_tool(b'{"do":"stat"}\n', "script"), (0, ""))
         self.assertEqual(
             self.run_tool(b"", "nowhere"), (2, "check: nowhere: No such file or directory\n"))
@@ -121,6 +173,19 @@ class Agrees(unittest.TestCase):
             self.fail(f"{name} line {number}: {lines[number - 1][:200]!r}: the program "
                       f"{'refuses' if number in refused else 'takes'} it")
         return len(refused)
+
+    def test_texts(self):
+        """Each text by itself, of a client that is connected."""
+        client = {"do": "connect", "client": "a"}
+        script = [client, *(command | {"do": do} for cases, commands in (
+            (FILTERS, [("subscribe", "filter"), ("unsubscribe", "filter")]),
+            (NAMES, [("publish", "topic")])) for text, _ in cases for do, name in commands
+            for command in [{"client": "a", name: text}])]
+        script += [command for command, _ in TEXT_COMMANDS]
+        lines = [json.dumps(command).encode() for command in script]
+        found = {number for number, line in enumerate(lines, 1)
+                 if list(text_faults(read_line(line)[0] or {}))}
+        self.assertEqual(found, invalid_lines(answers(b"\n".join(lines)), TEXT_FAULTS))
 
     def test_worked_scripts(self):
         self.assertGreater(sum(self.agrees(str(name), script) for name, script in scripts()), 5)

@@ -12,7 +12,7 @@ PACKAGE = HERE / "mqroute_tools"
 BELOW = {"common": set(), "script": {"common"}, "log": {"common", "script"},
          "plan": {"common", "script"},
          "losses": {"common", "script", "plan"}, "why": {"common", "script", "log"},
-         "preview": {"common", "script", "log", "losses"},
+         "preview": {"common", "script", "log", "plan", "losses"},
          "live": {"common", "script"}, "search": {"common", "script", "live"}}
 
 

@@ -1,5 +1,6 @@
 """The oracle module; and the guide's example, which finds the bug that is
 planted in its broker."""
+import io
 import json
 import os
 import re
@@ -12,11 +13,23 @@ from worked import GUIDE, PROGRAM, UNBUFFERED, answers, wants_program, wants_unb
 import mqroute
 from mqroute import Oracle, OracleFault
 from mqroute_tools.common import programs
+from mqroute_tools.script.oracle import place_of
 
 CONNECT = [{"do": "connect", "client": c} for c in "ab"]
 SUBSCRIBE = {"do": "subscribe", "client": "b", "filter": "#", "qos": 1}
 PUBLISH = {"do": "publish", "client": "a", "topic": "ä", "payload": "1", "retain": True}
 COPY = {"client": "b", "line": 4, "payload": "1", "qos": 0, "retain": False, "topic": "ä"}
+
+
+class Places(unittest.TestCase):
+    def test_place_of(self):
+        """Where the line begins, however the pieces fall that are read."""
+        text = b"first\n\nsecond one\nthe third\nlast"
+        for size in (1, 2, 3, 7, 100):
+            with mock.patch("mqroute_tools.script.oracle.PIECE", size):
+                for wanted, place in ((b"first", 0), (b"second one", 7), (b"one", 7), (b"ird", 18),
+                                      (b"last", 28), (b"fourth", len(text))):
+                    self.assertEqual(place_of(io.BytesIO(text), wanted), place)
 
 
 @wants_program

@@ -281,7 +281,15 @@ class Files(Case):
             self.assertIn("first at line 7 of the script, client hq-1\n", done)
             self.assertNotIn("--keep", done)  # no script is made that could stay
         done = self.shown("-", "new.acl", "script", input=CURRENT).stdout
-        self.assertIn("        -:6      topic read plant/+/energy\n", done)
+        self.assertIn("        standard input:6  topic read plant/+/energy\n", done)
+
+    def test_comment_in_front(self):
+        """A script all the same: mqroute refuses the line."""
+        for front in ("\n", "# a day\n"):
+            self.write("script", front + text_of(SCRIPT))
+            done = self.shown(*self.LISTS, "script")
+            self.assertEqual((done.returncode, done.stderr.count("lines read")), (1, 0))
+            self.assertIn(f" script {7 + front.count(chr(10))} hq-1\n", done.stdout)
 
     def test_several_logs(self):
         lines = (RECORDED / "plain.log").read_bytes().splitlines(keepends=True)
@@ -329,7 +337,7 @@ class Files(Case):
     def test_faults(self):
         self.write("wrong.acl", CURRENT + "topic rw x\n")
         self.refused('wrong.acl:9: unknown access "rw": ', "old.acl", "wrong.acl", "script")
-        self.refused('-:9: unknown access "rw": ', "old.acl", "-", "script",
+        self.refused('standard input:9: unknown access "rw": ', "old.acl", "-", "script",
                      input=CURRENT + "topic rw x\n")
         self.refused("preview: old.acl: no line is read as mosquitto's: looks like an access list",
                      *self.LISTS, "old.acl")

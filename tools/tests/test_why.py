@@ -179,6 +179,31 @@ class Why(unittest.TestCase):
         self.assertEqual((done.returncode, done.stdout), (2, ""))
         self.assertIn(f"the nearest 1 s before ({log}:803) and 2 s after ({log}:962)", done.stderr)
 
+    def test_lines_of_a_log(self):
+        """What is named are the lines that tell of it; what none tells of is said to be inferred,
+        as in a log whose beginning is missing."""
+        name, topic = "plain.log", "plant/hall-2/energy"
+        lines = (TOP / "brokers/recorded" / name).read_text("utf-8").split("\n")
+        inferred = []
+        for first in (0, 300):
+            (self.folder / name).write_text("\n".join(lines[first:]), encoding="utf-8")
+            done = self.why([], "--json", "--log", name, "--topic", topic, "--at", "1795359160")
+            for row in map(json.loads, done.stdout.splitlines()):
+                at = row["log"][str(row["line"])].removeprefix(f"{name}:")
+                self.assertIn('from o\'neil "b"', lines[first + int(at) - 1])  # its sender
+                for number in {*row["subscribed"], row["ended"], row["away"]} - {None}:
+                    place = row["log"][str(number)]
+                    if place.endswith(" (inferred)"):
+                        inferred.append(place)
+                        continue
+                    file, _, line = place.partition(":")
+                    # a filter stands below the line with the client
+                    near = lines[first + int(line) - 3:first + int(line) + 1]
+                    self.assertEqual(file, name)
+                    self.assertIn(row["client"], " ".join(near), (row, place))
+                    self.assertIn(place, row["words"] + " ".join(row["details"]))
+        self.assertIn("before the log (inferred)", inferred)
+
     def contradicts(self, script: list[dict], line: int, other: str, said: str) -> None:
         program = self.folder / "mqroute"
         program.write_text(WRITES_OTHERWISE)

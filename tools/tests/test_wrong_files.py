@@ -3,6 +3,7 @@ import gzip
 import unittest
 
 from test_files import BEFORE, LOG, RECORDED, SCRIPT, Case
+from mqroute_tools.common.messages import named
 from mqroute_tools.log.time_stamps import LOOKED_AT, Stamps
 from mqroute_tools.script.file_kinds import OF_MOSQUITTO, kind
 
@@ -18,7 +19,11 @@ class Kinds(unittest.TestCase):
     def test_kinds(self):
         for text, what in ((A_LOG, "a mosquitto log"), (SYSLOG + A_LOG, "a mosquitto log"),
                            (ODD_TIMES, "a mosquitto log"), (SCRIPT, "a script"),
-                           ("\n" + SCRIPT, "a script"), (BEFORE, "an output of mqroute"),
+                           ("\n" + SCRIPT, "a script"),
+                           (" \r\n# a day\n" + SCRIPT, "a script"),
+                           ("// a day\n\n" + SCRIPT, "a script"),
+                           ("# a day\n", ""),
+                           (BEFORE, "an output of mqroute"),
                            (ARRAY, "JSON"), ('{"time":1}\n', "JSON"), (LIST, "an access list"),
                            (SYSLOG, "a log of other programs"), (EMQX, "a log of other programs"),
                            ("", ""), ("x" * 1000, "")):
@@ -44,7 +49,8 @@ class Logs(Case):
         for words in (["log"], ["-"], ["--no-inference", "-"]):
             with open(self.folder / "log") as stream:
                 done = self.run_tool("log_to_script", *options, *words, input=None, stdin=stream)
-            self.refused(done, f"log_to_script: {words[-1]}: {said}")
+            name = named(words[-1])
+            self.refused(done, f"log_to_script: {name}: {said}")
         done = self.run_tool("compare_log", *options, "log", "before")
         self.refused(done, f"compare_log: log: {said}")
 

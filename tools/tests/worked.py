@@ -18,6 +18,7 @@ UNBUFFERED = PROGRAM.exists() and "--unbuffered" in subprocess.run(
     [PROGRAM, "--help"], capture_output=True, text=True).stdout
 wants_unbuffered = unittest.skipUnless(UNBUFFERED, "the program has no --unbuffered")
 LINE_FAULTS = (1, 2, 3, 4)  # codes of lines that are no commands
+TEXT_FAULTS = (5, 6, 8, 9, 10)  # and of those with a text that is none
 
 
 def scripts() -> Iterator[tuple[Path, bytes]]:
@@ -32,6 +33,6 @@ def answers(script: bytes) -> list[dict]:
     return [json.loads(line) for line in done.stdout.decode("utf-8").splitlines()]
 
 
-def invalid_lines(found: list[dict]) -> set[int]:
-    """The lines that the program refuses as no commands."""
-    return {answer["line"] for answer in found if answer.get("code") in LINE_FAULTS}
+def invalid_lines(found: list[dict], codes: tuple[int, ...] = LINE_FAULTS) -> set[int]:
+    """The lines that the program refuses as no commands, or with these codes."""
+    return {answer["line"] for answer in found if answer.get("code") in codes}

@@ -11,11 +11,11 @@ from contextlib import contextmanager
 from typing import TYPE_CHECKING, BinaryIO, TextIO, cast
 
 from .exit_status import Fault, UsageFault
+from .messages import STDIN as STDIN, named
 
 if TYPE_CHECKING:
     from _typeshed import WriteableBuffer
 
-STDIN = "-"
 GZIP = b"\x1f\x8b"  # how a file begins that gzip packed
 PIECE = 1 << 16
 
@@ -35,7 +35,7 @@ class Unpacked(io.RawIOBase):
         try:
             data = self.stream.read1(len(room))
         except (EOFError, gzip.BadGzipFile, zlib.error) as fault:
-            raise Fault(f"{self.name}: packed by gzip, and damaged: {fault}") from fault
+            raise Fault(f"{named(self.name)}: packed by gzip, and damaged: {fault}") from fault
         room[:len(data)] = data
         return len(data)
 
@@ -59,7 +59,7 @@ def open_text(name: str) -> TextIO:
 
 def at(name: str, line: int) -> str:
     """The place of a line, as editors take it."""
-    return f"{name}:{line}"
+    return f"{named(name)}:{line}"
 
 
 # -- not the same file
@@ -90,8 +90,7 @@ def keep_apart(read: Iterable[str | None], written: Mapping[str, str | None] = {
     for said, target in (targets | {"standard output": output}).items():
         for name, source in sources.items():
             if target and source and os.path.samestat(target, source):
-                which = "standard input" if name == STDIN else name
-                raise Fault(f"{said}: it would overwrite {which}, which is read too")
+                raise Fault(f"{said}: it would overwrite {named(name)}, which is read too")
 
 
 @contextmanager

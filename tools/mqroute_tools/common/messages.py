@@ -3,6 +3,7 @@ import os
 import sys
 from pathlib import Path
 
+STDIN = "-"
 SINGULARS = {"copies": "copy", "publishes": "publish"}
 
 
@@ -14,6 +15,11 @@ def own_name() -> str:
 
 def tell(text: str) -> None:
     print(f"{own_name()}: {text}", file=sys.stderr)
+
+
+def named(name: str) -> str:
+    """A file as a message names it."""
+    return "standard input" if name == STDIN else name
 
 
 def one_of(noun: str) -> str:

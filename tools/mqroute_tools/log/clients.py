@@ -1,6 +1,7 @@
 """The clients as the script has them: the commands of their coming and going."""
 import re
 from collections.abc import Mapping
+from typing import Any
 
 from ..script.output import Command
 from ..script.sessions import FOREVER
@@ -13,6 +14,10 @@ MQTT_3_1 = 1  # as the log has it: 1 is 3.1, 2 is 3.1.1, 5 is 5
 
 SEEN, INFERRED, NONE = range(3)  # what explains a copy
 REASONS = 10_000  # of which each client's last ones are remembered
+
+
+class Inferred(dict[str, Any]):
+    """A command that no line of the log tells of by itself."""
 
 
 class Session:
@@ -121,7 +126,7 @@ class Clients:
             self.was_before(client)
             away = self.away.pop(client, None)
             found = self.connected[client] = away or Session()
-            self.emit(self.place, {"do": "connect", "client": client})
+            self.emit(self.place, Inferred({"do": "connect", "client": client}))
         return found
 
     def was_before(self, client: str) -> None:
@@ -197,11 +202,11 @@ class Clients:
             if ends and any(matches(plain_filter(name), will["topic"])
                             for name in session.filters | session.inferred):
                 self.come_for_will(place, connect_command(client, session.user))
-            self.emit(place, will, None)
+            self.emit(place, Inferred(will), None)
 
     def come_for_will(self, place: int, command: Command) -> None:
         """A connect that the broker never saw."""
-        self.emit(place, command)
+        self.emit(place, Inferred(command))
 
     def end(self, client: str, willed: bool) -> None:
         """The connection has ended."""
@@ -233,9 +238,9 @@ class Clients:
             kept = {"clean": False, "session_expiry": session.expiry} if session.kept else {}
             self.come_for_will(self.place, connect_command(client, session.user) | kept)
         if session.will:
-            self.emit(self.place, session.will, None)
+            self.emit(self.place, Inferred(session.will), None)
         if not came_back:
-            self.emit(self.place, {"do": "disconnect", "client": client})
+            self.emit(self.place, Inferred({"do": "disconnect", "client": client}))
         self.ended = client
 
     def closed(self, client: str) -> None:
@@ -253,8 +258,8 @@ class Clients:
         session = self.away.pop(client, None)
         if session:
             self.unrouted(session)
-            self.emit(self.place, {"do": "connect", "client": client})
-            self.emit(self.place, {"do": "disconnect", "client": client})
+            self.emit(self.place, Inferred({"do": "connect", "client": client}))
+            self.emit(self.place, Inferred({"do": "disconnect", "client": client}))
 
     def start(self) -> None:
         """The broker starts: nobody is connected."""

@@ -32,6 +32,10 @@ class Side:
     refused: str | None = None
 
 
+Sides = tuple[Side, Side]
+Turn = tuple[Key, Key]  # whose copy another member of the group has, and whose it is
+
+
 class ByPlan:
     """Reads both scripts and both outputs side by side."""
 
@@ -72,17 +76,23 @@ class ByPlan:
 
     def compare(self) -> None:
         for number, sides in self.answered():
-            command = command_of(self.lines[0][number - 1]) or {}
-            topic = command.get("topic")
-            if isinstance(topic, str):
-                command = command | {"topic": self.renamed(topic)}
-            was, now = sides[0].copies, sides[1].copies
-            self.losses.add_copies(was, now)
-            self.leave_out_turns(was, now)
-            self.losses.add_refusals(command, number, sides[0].refused, sides[1].refused)
+            self.count(number, command_of(self.lines[0][number - 1]) or {}, sides)
         refuse_rest(self.runs, " and ".join(self.scripts))
 
-    def answered(self) -> Iterator[tuple[int, tuple[Side, Side]]]:
+    def count(self, number: int, command: Command, sides: Sides) -> list[Turn]:
+        """Counts what one line of the old script was answered in both runs. Gives the turns."""
+        topic = command.get("topic")
+        if isinstance(topic, str):
+            command = command | {"topic": self.renamed(topic)}
+        was, now = sides[0].copies, sides[1].copies
+        self.losses.add_copies(was, now)
+        turns = list(turns_of(was, now))
+        for turn in turns:
+            self.leave_out(turn)
+        self.losses.add_refusals(command, number, sides[0].refused, sides[1].refused)
+        return turns
+
+    def answered(self) -> Iterator[tuple[int, Sides]]:
         """Each line of the old script with the answers to all that stands for it."""
         first, sides = 1, (Side(), Side())
         for number, lines in enumerate(zip(*self.lines), 1):
@@ -120,14 +130,11 @@ class ByPlan:
                 topic = copy["topic"] if is_renamed else self.renamed(copy["topic"])
                 side.copies[copy["client"], topic].append(text_of_copy(copy, topic))
 
-    def leave_out_turns(self, was: Copies, now: Copies) -> None:
+    def leave_out(self, turn: Turn) -> None:
         """Where another member of a group was served nothing is lost and nothing gained."""
-        lost, gained = in_groups(was, now), in_groups(now, was)
-        for slot in lost.keys() & gained.keys():
-            for one, other in zip(lost[slot], gained[slot]):
-                self.entry(one).lost -= 1
-                self.entry(other).gained -= 1
-                self.turns += 1
+        self.entry(turn[0]).lost -= 1
+        self.entry(turn[1]).gained -= 1
+        self.turns += 1
 
     def entry(self, key: Key) -> Counts:
         return self.losses.copies[self.losses.who(key[0]), self.losses.gathered(key[1])]
@@ -136,6 +143,12 @@ class ByPlan:
 def text_of_copy(copy: Answer, topic: str) -> str:
     kept = {name: value for name, value in copy.items() if name not in OMITTED}
     return json.dumps(kept | {"topic": topic}, ensure_ascii=False)
+
+
+def turns_of(was: Copies, now: Copies) -> Iterator[Turn]:
+    lost, gained = in_groups(was, now), in_groups(now, was)
+    for slot in lost.keys() & gained.keys():
+        yield from zip(lost[slot], gained[slot])
 
 
 def in_groups(these: Copies, those: Copies) -> dict[tuple[str, str], list[Key]]:

@@ -1,5 +1,6 @@
 """Two outputs for one script, line by line: what differs, by client or user name and topic."""
 from collections import defaultdict
+from collections.abc import Mapping
 from functools import lru_cache, partial
 from typing import BinaryIO
 
@@ -29,6 +30,7 @@ class Losses:
     def __init__(self, depth: int | None) -> None:
         self.gathered = lru_cache(REMEMBERED)(partial(gathered, depth))
         self.reasons: Reasons | None = None
+        self.users: Mapping[str, str | None] | None = None  # of clients, where rows are by them
         self.copies: defaultdict[Row, Copies] = defaultdict(Copies)
         self.refusals: defaultdict[Row, Refusals] = defaultdict(Refusals)
         self.entries: dict[Key, Copies] = {}  # of `copies`, those of the first keys
@@ -58,6 +60,8 @@ class Losses:
             self.reasons.attribution.end(command, *blocks, was)
 
     def who(self, client: str) -> str | None:
+        if self.users is not None:
+            return self.users.get(client)
         return self.reasons.who(client) if self.reasons else client
 
     def add_refusals(self, command: Command, line: int, was: str | None,

@@ -2,8 +2,9 @@
 nothing."""
 import json
 from collections import Counter
-from collections.abc import Iterator
+from collections.abc import Callable, Iterator
 
+from ..common.messages import named
 from ..common.programs import output_of
 from ..script.access_list import AccessList, Line
 from .findings import Client, Deciding, Json, Remark, Right, Subscription
@@ -21,7 +22,13 @@ class Lists:
         self.current = AccessList(current, rules)
         self.proposed = AccessList(proposed, rules)
         self.rules = rules
-        self.names = {one.path: one.name for one in (self.current, self.proposed)}
+        self.plan: list[str] = []  # the option for it, if topics are renamed
+        self.plan_name = ""
+        self.names = {one.path: named(one.name) for one in (self.current, self.proposed)}
+
+    def rename(self, plan: str, name: str) -> None:
+        """From here on the proposed list has new names by the plan, a file of another name."""
+        self.plan, self.plan_name, self.names[plan] = [f"--plan={plan}"], name, named(name)
 
     def asked(self, subcommand: str, words: list[str], quiet: bool = True) -> Asked:
         """Raises Fault where mqroute-acl ends with another status than 0 and 1."""
@@ -42,22 +49,32 @@ class Lists:
         """The differences that `mqroute-acl compare` shows, each with all whom it concerns; and
         what it notes."""
         rows, notes = self.asked(
-            "compare", ["--", self.current.path, self.proposed.path], quiet=False)
+            "compare", [*self.plan, "--", self.current.path, self.proposed.path], quiet=False)
         known: dict[tuple[str, str, str, int, int], Right] = {}
         for row in rows:
             old, new = self.current.line(row["old"]), self.proposed.line(row["new"])
             key = row["change"], row["access"], row["topic"], number(old), number(new)
-            right = known.setdefault(key, Right(*key[:3], Deciding(old, new), []))
+            right = known.setdefault(key, Right(
+                *key[:3], Deciding(old, new), [], row.get("new_topic"), self.rule(row)))
             right.clients.append(Client(row["user"], row["client"], row["placeholders"]))
         return list(known.values()), notes
 
-    def newly_receiving_nothing(self, script: str) -> list[Subscription]:
+    def rule(self, row: Json) -> Line | None:
+        """The line of the plan that decides about the topic."""
+        found = row.get("rule")
+        return Line(self.plan_name, found["line"], found["text"]) if found else None
+
+    def newly_receiving_nothing(self, scripts: tuple[str, str],
+                                own: Callable[[int], int]) -> list[Subscription]:
         """Those that can receive something under the current list, and nothing under the proposed
-        one: once for each client, user name and filter."""
-        before = {one.line for one in self.receiving_nothing(self.current, script)}
+        one: once for each client, user name and filter. Each list has a script; `own` gives the
+        lines by which both are compared."""
+        before = {own(one.line) for one in self.receiving_nothing(self.current, scripts[0])}
         found = {(one.client, one.user, one.filter): one
-                 for one in reversed(self.receiving_nothing(self.proposed, script))
-                 if one.line not in before}
+                 for one in reversed(self.receiving_nothing(self.proposed, scripts[1]))
+                 if own(one.line) not in before}
+        for one in found.values():
+            one.line = own(one.line)
         return sorted(found.values(), key=lambda one: (one.client, one.filter, one.line))
 
     def receiving_nothing(self, one: AccessList, script: str) -> list[Subscription]:

@@ -55,7 +55,10 @@ class UserRow:
         return self.lost / self.before if self.before else 0.0
 
     def json(self) -> Json:
-        return asdict(self) | {"causes": [cause.json() for cause in self.causes]}
+        return asdict(self) | {
+            "topics_lost": [one.json() for one in self.topics_lost],
+            "topics_gained": [one.json() for one in self.topics_gained],
+            "causes": [cause.json() for cause in self.causes]}
 
 
 @dataclass
@@ -69,7 +72,8 @@ class RefusedRow:
     causes: list[Cause] = field(default_factory=list)
 
     def json(self) -> Json:
-        return asdict(self) | {"causes": [cause.json() for cause in self.causes]}
+        return asdict(self) | {"topics": [one.json() for one in self.topics],
+                               "causes": [cause.json() for cause in self.causes]}
 
 
 @dataclass
@@ -92,10 +96,15 @@ class Right:
     topic: str
     deciding: Deciding
     clients: list[Client]
+    new_topic: str | None = None  # by a plan, with the rule that decides; None without one
+    rule: Line | None = None
 
     def json(self) -> Json:
-        return {"access": self.access, "topic": self.topic, **asdict(self.deciding),
-                "clients": [asdict(client) for client in self.clients]}
+        found = {"access": self.access, "topic": self.topic, **asdict(self.deciding),
+                 "clients": [asdict(client) for client in self.clients]}
+        if self.new_topic is None:
+            return found
+        return found | {"new_topic": self.new_topic, "rule": self.rule and asdict(self.rule)}
 
 
 @dataclass
@@ -105,6 +114,23 @@ class Subscription:
     client: str
     user: str | None
     filter: str
+    was: str | None = None  # under old names, with a plan
+
+    def json(self) -> Json:
+        found = asdict(self)
+        return found if self.was is not None else {
+            name: value for name, value in found.items() if name != "was"}
+
+
+@dataclass
+class Carried:
+    """What a plan can't carry over as it is: a subscription that needs several filters or another
+    look, a topic without a new name."""
+    line: int
+    words: str
+    was: str | None  # a subscription, and what it becomes
+    becomes: list[str]
+    clients: list[str]
 
 
 @dataclass
@@ -133,6 +159,8 @@ class Preview:
     notes: list[str]  # on the rules, of mqroute-acl
     facts: ScriptFacts = field(default_factory=ScriptFacts)
     could_keep: bool = False  # whether with --keep the causes would have commands
+    plan: str | None = None
+    carried: list[Carried] = field(default_factory=list)
 
     def changes(self) -> bool:
         """Whether anything does; a remark alone is no change."""
@@ -157,6 +185,7 @@ class Preview:
             "subscriptions": len(self.subscriptions)}
 
     def json(self, summary: str) -> Json:
+        by_plan = {"plan": self.plan, "carried": as_objects(self.carried)} if self.plan else {}
         return {"current": self.current, "proposed": self.proposed, "sources": self.sources,
                 "rules": self.rules, "clients": self.facts.clients,
                 "publishes": self.facts.publishes,
@@ -164,10 +193,10 @@ class Preview:
                 "refused": [row.json() for row in self.refused],
                 "granted": [right.json() for right in self.granted],
                 "taken": [right.json() for right in self.taken],
-                "subscriptions": as_objects(self.subscriptions),
+                "subscriptions": [one.json() for one in self.subscriptions],
                 "remarks": as_objects(self.remarks), "notes": self.notes,
-                "totals": self.totals(), "summary": summary}
+                **by_plan, "totals": self.totals(), "summary": summary}
 
 
-def as_objects(rows: Iterable[Subscription | Remark]) -> list[Json]:
+def as_objects(rows: Iterable[Remark | Carried]) -> list[Json]:
     return [asdict(row) for row in rows]

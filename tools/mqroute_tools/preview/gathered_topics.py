@@ -4,6 +4,7 @@ from collections import defaultdict
 from collections.abc import Mapping
 from dataclasses import dataclass
 from itertools import combinations
+from typing import Any
 
 FEW = 3  # so many make a `+`
 ENOUGH, MANY = 3, 12  # so many rows aren't gathered any more, and of more than so many less stays
@@ -20,10 +21,15 @@ class Topics:
     filter: str
     topics: int
     messages: int
+    new: str | None = None  # what a plan makes of it
 
     def add(self, other: "Topics") -> None:
         self.topics += other.topics
         self.messages += other.messages
+
+    def json(self) -> dict[str, Any]:
+        found = {"filter": self.filter, "topics": self.topics, "messages": self.messages}
+        return found if self.new is None else found | {"new": self.new}
 
 
 Rows = dict[Levels, Topics]

@@ -12,13 +12,17 @@ from ..common.programs import output_of
 from ..common.progress import Progress
 from ..losses import acl_verdicts
 from ..losses.comparison import Losses, compare, findings
-from ..losses.findings import Findings
+from ..losses.findings import Totals
 from ..losses.report_rows import Reasons
+from ..plan.topic_plan import read_plan
 from ..script.access_list import AccessList
 from ..script.oracle import found_program
 from .acl_answers import Lists
-from .findings import GAINED, LOST, Cause, Preview, Remark, Right, Subscription
-from .kept_folder import AFTER, BEFORE, SCRIPT
+from .findings import (
+    GAINED, LOST, Cause, Preview, RefusedRow, Remark, Right, Subscription, UserRow)
+from .kept_folder import AFTER, BEFORE, NEW, SCRIPT
+from .plan_losses import PlanLosses
+from .renaming import Renaming, plan_file
 from .script_facts import ScriptFacts, facts_of
 from .sources import Script, script_of, sources_of
 from .user_rows import refused_rows, user_rows
@@ -27,17 +31,19 @@ from .why_command import LIMITS, WhyCommand
 STEPS = ("comparing the lists", "looking for remarks", "reading what clients did",
          "looking at subscriptions", "trying the current list", "trying the proposed list",
          "comparing what was delivered")
+BY_PLAN = *STEPS[:3], "renaming topics", *STEPS[3:]
 
 
 class Steps:
     """Shown on a terminal."""
 
-    def __init__(self) -> None:
-        self.progress, self.number = Progress(), 0
+    def __init__(self, names: tuple[str, ...]) -> None:
+        self.progress, self.names, self.number = Progress(), names, 0
 
     def next(self) -> None:
         self.number += 1
-        self.progress.show(f"step {self.number} of {len(STEPS)}: {STEPS[self.number - 1]}")
+        self.progress.show(
+            f"step {self.number} of {len(self.names)}: {self.names[self.number - 1]}")
 
     def clear(self) -> None:
         self.progress.clear()
@@ -54,15 +60,15 @@ class Answers:
 
 @dataclass
 class Differences:
-    """What who-loses finds between both runs, and by what it was found."""
-    losses: Losses
-    reasons: Reasons
-    found: Findings
+    """What who-loses finds between both runs, by user name."""
+    users: list[UserRow]
+    refused: list[RefusedRow]
+    totals: Totals
 
 
 def preview_of(options: argparse.Namespace, folder: Path) -> Preview:
     """Raises Fault where a file or a program fails. What is noted goes to standard error."""
-    steps = Steps()
+    steps = Steps(STEPS if options.plan is None else BY_PLAN)
     try:
         return gathered(options, folder, steps)
     finally:
@@ -70,23 +76,43 @@ def preview_of(options: argparse.Namespace, folder: Path) -> Preview:
 
 
 def gathered(options: argparse.Namespace, folder: Path, steps: Steps) -> Preview:
+    plan = None if options.plan is None else read_plan(options.plan)
     sources = sources_of(options, folder)
     lists = Lists(options.current, options.proposed, options.rules)
+    if plan is not None:
+        lists.rename(plan_file(plan, folder), plan.name)
     answers = asked_first(lists, steps)
     steps.next()
     script = script_of(options, sources, folder, steps.clear)
     lists.names[script.path] = script.name
-    steps.next()
-    answers.subscriptions = lists.newly_receiving_nothing(script.path)
-    outputs = []
-    for name, one in ((BEFORE, lists.current), (AFTER, lists.proposed)):
+    renaming = None
+    if plan is not None:
         steps.next()
-        outputs.append(folder / name)
-        run(options, lists, one, script, outputs[-1])
+        renaming = Renaming(plan, script, folder)
     steps.next()
-    differences = compared(lists, script, *map(str, outputs))
+    scripts = (script.path,) * 2 if renaming is None else (renaming.old, renaming.new)
+    answers.subscriptions = receiving_nothing(lists, scripts, renaming)
+    outputs = folder / BEFORE, folder / AFTER
+    for one, path, output in zip((lists.current, lists.proposed), scripts, outputs):
+        steps.next()
+        run(options, lists, one, path, output)
+    steps.next()
+    before, after = map(str, outputs)
+    differences = (compared(lists, script, before, after) if renaming is None else
+                   compared_by_plan(lists, renaming, before, after))
     steps.clear()
-    return put_together(options, lists, script, answers, differences)
+    return put_together(options, lists, script, renaming, answers, differences)
+
+
+def receiving_nothing(lists: Lists, scripts: tuple[str, str],
+                      renaming: Renaming | None) -> list[Subscription]:
+    """That can receive nothing any more; by a plan with the filters of before."""
+    if renaming is None:
+        return lists.newly_receiving_nothing(scripts, int)
+    found = lists.newly_receiving_nothing(scripts, renaming.own.__getitem__)
+    for one in found:
+        one.was = str(renaming.field(one.line, "filter"))
+    return found
 
 
 def asked_first(lists: Lists, steps: Steps) -> Answers:
@@ -101,14 +127,14 @@ def asked_first(lists: Lists, steps: Steps) -> Answers:
     return Answers(rights, notes, remarks, [])
 
 
-def run(options: argparse.Namespace, lists: Lists, one: AccessList, script: Script,
+def run(options: argparse.Namespace, lists: Lists, one: AccessList, script: str,
         output: Path) -> None:
     """mqroute, on the script, under one of the lists."""
     words = [found_program(), f"--acl-file={one.path}", f"--rules={options.rules or 'own'}"]
     words += [f"--{name.replace('_', '-')}={getattr(options, name)}" for name in LIMITS
               if getattr(options, name) is not None]
     with open(output, "xb") as out:
-        output_of([*words, "--", script.path], lists.named, out=out.fileno())
+        output_of([*words, "--", script], lists.named, out=out.fileno())
 
 
 def compared(lists: Lists, script: Script, before: str, after: str) -> Differences:
@@ -119,7 +145,15 @@ def compared(lists: Lists, script: Script, before: str, after: str) -> Differenc
     compare(losses, script.path, before, after)
     found = findings(losses)
     deciding.refuse()
-    return Differences(losses, reasons, found)
+    return Differences(user_rows(losses, reasons, found), refused_rows(reasons, found),
+                       found.totals)
+
+
+def compared_by_plan(lists: Lists, renaming: Renaming, before: str, after: str) -> Differences:
+    """As `who-loses --plan`."""
+    losses = PlanLosses(renaming, lists, (before, after))
+    losses.compare()
+    return Differences(losses.user_rows(), losses.refused_rows(), losses.totals())
 
 
 def later_name(options: argparse.Namespace, script: Script) -> str | None:
@@ -129,27 +163,37 @@ def later_name(options: argparse.Namespace, script: Script) -> str | None:
     return script.name if script.is_file else None
 
 
+def why_script(options: argparse.Namespace, found: Preview) -> str | None:
+    """The script that mqroute-why can be asked about: with a plan the one under new names."""
+    if options.plan is None:
+        return found.script
+    return None if options.keep is None else os.path.join(options.keep, NEW)
+
+
 def wanted_lines(causes: list[Cause]) -> set[int]:
     return {number for cause in causes for place in cause.lines
             for number in (place.line, place.publish)}
 
 
-def put_together(options: argparse.Namespace, lists: Lists, script: Script, answers: Answers,
+def put_together(options: argparse.Namespace, lists: Lists, script: Script,
+                 renaming: Renaming | None, answers: Answers,
                  differences: Differences) -> Preview:
-    users = user_rows(differences.losses, differences.reasons, differences.found)
-    refused = refused_rows(differences.reasons, differences.found)
     granted, taken = ([one for one in answers.rights if one.change == change]
                       for change in (GAINED, LOST))
     found = Preview(
         options.current, options.proposed, options.source, options.rules or "own",
-        later_name(options, script), users, refused, granted, taken, answers.subscriptions,
-        answers.remarks, differences.found.totals, answers.notes)
+        later_name(options, script), differences.users, differences.refused, granted, taken,
+        answers.subscriptions, answers.remarks, differences.totals, answers.notes)
     found.facts = facts_of(script.path, wanted_lines(found.causes()))
     tell_of(found.facts, script)
+    publishes = {line: line for line in found.facts.wanted_publishes}
+    if renaming is not None:
+        found.plan, found.carried = renaming.plan.name, list(renaming.carried())
+        publishes = renaming.publishes(found.facts.wanted_publishes)
     is_file = lists.proposed.path == lists.proposed.name
-    found.could_keep = is_file and script.is_made and options.keep is None
-    command = WhyCommand(
-        options, found.script if is_file else None, found.facts.wanted_publishes)
+    found.could_keep = is_file and options.keep is None and (
+        script.is_made or renaming is not None)
+    command = WhyCommand(options, why_script(options, found) if is_file else None, publishes)
     for cause in found.causes():
         cause.command = command.of(cause)
     return found

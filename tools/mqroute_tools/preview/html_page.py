@@ -3,7 +3,7 @@ import time
 from collections.abc import Iterator
 
 from ..common.files import whole
-from ..common.messages import counted
+from ..common.messages import counted, named
 from ..common.page_frame import ENDING, beginning
 from ..losses.html_escape import escaped
 from .findings import Preview
@@ -12,9 +12,10 @@ from .page_rows import Rows
 from .page_style import STYLE
 from .share_picture import picture
 from .verdict import verdict
-from .words import summary, tried
+from .words import CARRIED, summary, tried
 
 TITLE = "A new access list: who loses, who gains, what is newly allowed"
+PLAN_TITLE = "New topics and a new access list: who loses, who gains, what is newly allowed"
 LEGEND = ("<p class='legend'><i class='key kept'></i> stays <i class='key lost'></i> lost "
           "<i class='key gained'></i> gained: of the messages that each user gets now, and would "
           "gain</p>\n")
@@ -22,8 +23,9 @@ LEGEND = ("<p class='legend'><i class='key kept'></i> stays <i class='key lost'>
 
 def write(name: str, found: Preview, title: str | None) -> None:
     """Beside its place, and then renamed. Raises OSError where it can't be written."""
+    head = title or (PLAN_TITLE if found.plan else TITLE)
     with whole(name) as out:
-        out.writelines(part.encode("utf-8") for part in parts(found, title or TITLE))
+        out.writelines(part.encode("utf-8") for part in parts(found, head))
 
 
 def parts(found: Preview, title: str) -> Iterator[str]:
@@ -46,6 +48,8 @@ def parts(found: Preview, title: str) -> Iterator[str]:
         yield section("Whose publishes are refused, whose no longer", rows.refused())
     if found.subscriptions:
         yield section("Subscriptions that can receive nothing any more", rows.subscriptions())
+    if found.carried:
+        yield section(CARRIED, rows.carried())
     if found.remarks:
         yield section(f"New remarks on {file(found.proposed)}", rows.remarks())
     yield f"<p id='summary'>{escaped(summary(found))}</p>\n{ENDING}"
@@ -56,7 +60,7 @@ def section(head: str, inside: str) -> str:
 
 
 def file(name: str) -> str:
-    return f"<bdi class='file'>{escaped(name)}</bdi>"
+    return f"<bdi class='file'>{escaped(named(name))}</bdi>"
 
 
 def about(found: Preview) -> str:
@@ -64,7 +68,8 @@ def about(found: Preview) -> str:
     lists = [file(name) + committed(name) for name in (found.proposed, found.current)]
     sources = ", ".join(map(file, found.sources))
     now = time.strftime("%Y-%m-%d %H:%M")
-    return (f"<p class='about'>{' in place of '.join(lists)}, tried on {sources}: "
+    plan = f", topics renamed by {file(found.plan)}{committed(found.plan)}" if found.plan else ""
+    return (f"<p class='about'>{' in place of '.join(lists)}{plan}, tried on {sources}: "
             f"{tried(found)}. <time datetime='{now.replace(' ', 'T')}'>{now}</time></p>\n")
 
 

@@ -1,19 +1,22 @@
 """The folder in which a preview works: a temporary one, of which --keep lets some files stay."""
 import os
 import tempfile
-from collections.abc import Iterator
+from collections.abc import Iterable, Iterator
 from contextlib import contextmanager
 from pathlib import Path
 
 from ..common.exit_status import Fault
 
 SCRIPT, BEFORE, AFTER = "script.jsonl", "before", "after"
+OLD, NEW = "old.jsonl", "new.jsonl"  # by a plan, under old names and under new ones
+NAMES = SCRIPT, BEFORE, AFTER
+ALL_NAMES = *NAMES, OLD, NEW
 
 
-def refuse_to_overwrite(kept: str | None) -> None:
+def refuse_to_overwrite(kept: str, names: Iterable[str]) -> None:
     """Raises Fault where a file of these names is there."""
-    for name in (SCRIPT, BEFORE, AFTER) if kept is not None else ():
-        path = Path(kept or "", name)
+    for name in names:
+        path = Path(kept, name)
         if os.path.lexists(path):
             raise Fault(f"--keep {kept}: {path} is there already")
 
@@ -29,8 +32,8 @@ def work_folder(kept: str | None) -> Iterator[Path]:
 
 
 def keep(folder: Path, kept: str) -> None:
-    """Lets what is there of the script and both outputs stay."""
-    refuse_to_overwrite(kept)
-    for name in (SCRIPT, BEFORE, AFTER):
-        if (folder / name).exists():
-            os.rename(folder / name, Path(kept, name))
+    """Lets what is there of the scripts and both outputs stay."""
+    names = [name for name in ALL_NAMES if (folder / name).exists()]
+    refuse_to_overwrite(kept, names)
+    for name in names:
+        os.rename(folder / name, Path(kept, name))

@@ -2,15 +2,16 @@
 from collections.abc import Iterable, Iterator
 
 from ..common.files import at
-from ..common.messages import counted
+from ..common.messages import counted, named
 from ..losses.html_escape import escaped, visible
 from ..losses.script_lines import script_lines
 from ..script.access_list import Line
-from .findings import Cause, Deciding, Preview, RefusedRow, Remark, Right, Subscription, UserRow
+from .findings import (
+    Carried, Cause, Deciding, Preview, RefusedRow, Remark, Right, Subscription, UserRow)
 from .gathered_topics import Topics
 from .page_tables import Column, cell, head_cell, number, row, table
 from .words import (
-    NO_LINE, OTHERWISE, client_of, concerned, may, share, topic_count, topic_of, whom)
+    NO_LINE, NO_RULE, OTHERWISE, client_of, concerned, may, share, topic_count, topic_of, whom)
 
 USERS = (Column("User"), Column("Clients", True), Column("Before", True), Column("After", True),
          Column("Lost", True), Column("Gained", True), Column("Topics"))
@@ -73,12 +74,16 @@ class Rows:
         lines = script_lines(cause.lines, cause.count, of, self.found.facts.texts)
         return f"<div class='cause'>{words}{deciding}{command}{lines}</div>"
 
-    def deciding(self, lines: Deciding) -> str:
-        """The line of each list, or that none allows it."""
+    def deciding(self, lines: Deciding, rule: str = "") -> str:
+        """The line of each list, or that none allows it; and of a plan."""
         sides = ((self.found.current, lines.current), (self.found.proposed, lines.proposed))
-        items = "".join(f"<dt>{place(name, line)}</dt><dd>{line_text(line)}</dd>"
-                        for name, line in sides)
-        return f"<dl class='decides'>{items}</dl>"
+        items = "".join(decider(name, line) for name, line in sides)
+        return f"<dl class='decides'>{items}{rule}</dl>"
+
+    def rule(self, right: Right) -> str:
+        """The line of the plan that is about the topic."""
+        plan = self.found.plan
+        return decider(plan, right.rule, NO_RULE) if plan else ""
 
     def rights(self, name: str, rights: list[Right], caption: str) -> str:
         return table(name, caption, RIGHTS, map(self.right, rights))
@@ -89,7 +94,7 @@ class Rows:
         return row((head_cell(f"<bdi>{escaped(concerned(one, None))}</bdi>"),
                     cell(may(one), f"may {one.change}"),
                     cell(f"<code><bdi>{visible(topic_of(one))}</bdi></code>{more}", "topic"),
-                    cell(self.deciding(one.deciding), "lines")))
+                    cell(self.deciding(one.deciding, self.rule(one)), "lines")))
 
     def subscriptions(self) -> str:
         columns = Column("Client"), Column("User"), Column("Filter"), Column("Line of the script")
@@ -99,8 +104,19 @@ class Rows:
     def subscription(self, one: Subscription) -> str:
         user = "none" if one.user is None else f"<bdi>{visible(one.user)}</bdi>"
         return row((head_cell(f"<bdi>{visible(one.client)}</bdi>"), cell(user, name="user"),
-                    cell(f"<code><bdi>{visible(one.filter)}</bdi></code>"),
-                    cell(f"{one.line:,}", "line", "line")))
+                    cell(renamed(one.was, one.filter)), cell(f"{one.line:,}", "line", "line")))
+
+    def carried(self) -> str:
+        columns = (Column("Line of the script"), Column("Subscription"), Column("Becomes"),
+                   Column("Remark"))
+        return table("carried", "As <code>mqroute-plan check</code> shows it", columns,
+                     map(self.carried_row, self.found.carried))
+
+    def carried_row(self, one: Carried) -> str:
+        becomes = "".join(f"<li>{code(name)}</li>" for name in one.becomes)
+        return row((head_cell(f"{one.line:,}"), cell(code(one.was) if one.was else ""),
+                    cell(f"<ul class='topics'>{becomes}</ul>" if becomes else ""),
+                    cell(escaped(one.words))))
 
     def remarks(self) -> str:
         columns = Column("Line"), Column("Text"), Column("Remark")
@@ -118,16 +134,29 @@ def paint(what: str) -> str:
 
 
 def topic_list(topics: Iterable[Topics], before: str) -> str:
-    items = "".join(f"<li>{before}<code><bdi>{visible(one.filter)}</bdi></code>"
+    items = "".join(f"<li>{before}{renamed(one.filter, one.new or one.filter)}"
                     f"<span>{topic_count(one)}</span></li>" for one in topics)
     return f"<ul class='topics'>{items}</ul>" if items else ""
 
 
+def code(name: str) -> str:
+    return f"<code><bdi>{visible(name)}</bdi></code>"
+
+
+def renamed(old: str | None, new: str) -> str:
+    """Both names, where they differ."""
+    return code(new) if old in (None, new) else f"{code(old or '')} → {code(new)}"
+
+
+def decider(name: str, line: Line | None, none: str = NO_LINE) -> str:
+    return f"<dt>{place(name, line)}</dt><dd>{line_text(line, none)}</dd>"
+
+
 def place(name: str, line: Line | None) -> str:
-    return f"<bdi>{escaped(name if line is None else at(name, line.line))}</bdi>"
+    return f"<bdi>{escaped(named(name) if line is None else at(name, line.line))}</bdi>"
 
 
-def line_text(line: Line | None) -> str:
+def line_text(line: Line | None, none: str) -> str:
     if line is None:
-        return NO_LINE
+        return none
     return f"<code><bdi>{escaped(line.text.strip())}</bdi></code>"

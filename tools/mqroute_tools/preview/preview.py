@@ -1,5 +1,6 @@
 """preview: shows what a proposed access list would change: who loses, who gains, what is newly
 allowed and no longer allowed to anybody, and which subscriptions can receive nothing any more.
+With a plan the clients move to new topics too.
 
 It decides nothing itself: mqroute runs the script under both lists, mqroute-acl answers about the
 lists, and what differs is found as by who-loses.
@@ -31,6 +32,8 @@ def add_arguments(parser: argparse.ArgumentParser) -> None:
                         help="a script for mqroute, or mosquitto logs that follow one another")
     parser.add_argument("--rules", choices=RULES,
                         help="by whose rules lists are read, and decide (own)")
+    parser.add_argument("--plan", metavar="PLAN", help="topics are renamed by this plan, and "
+                        "the proposed list has new names")
     parser.add_argument("--html", metavar="FILE", help="write a page, too")
     parser.add_argument("--title", help="of the page")
     parser.add_argument("--json", action="store_true", help="one JSON object in place of the text")
@@ -45,12 +48,13 @@ def check(options: argparse.Namespace) -> None:
     """Refuses arguments that don't go together, and a file that is read and written."""
     if options.title is not None and options.html is None:
         raise UsageFault("--title wants --html")
-    read = [options.current, options.proposed, *options.source, options.begin]
+    read = [options.current, options.proposed, *options.source, options.begin, options.plan]
     refuse_stdin_twice(read)
     keep_apart(read, {"--html": options.html})
-    kept_folder.refuse_to_overwrite(options.keep)
+    names = kept_folder.NAMES if options.plan is None else kept_folder.ALL_NAMES
+    if options.keep is not None:
+        kept_folder.refuse_to_overwrite(options.keep, names)
     if None not in (options.html, options.keep):
-        names = (kept_folder.SCRIPT, kept_folder.BEFORE, kept_folder.AFTER)
         if os.path.realpath(options.html) in (
                 os.path.realpath(Path(options.keep, name)) for name in names):
             raise UsageFault("--html names a file that --keep writes")

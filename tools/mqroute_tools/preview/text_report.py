@@ -4,14 +4,16 @@ from collections.abc import Callable, Iterable, Iterator
 from typing import TypeVar
 
 from ..common.files import at
+from ..common.messages import named
 from ..common.tables import shown
 from ..common.terminal import BOLD, DIM, GREEN, RED, Terminal
 from ..script.access_list import Line
-from .findings import Cause, Deciding, Preview, RefusedRow, Remark, Right, Subscription, UserRow
+from .findings import (
+    Carried, Cause, Deciding, Preview, RefusedRow, Remark, Right, Subscription, UserRow)
 from .gathered_topics import Topics
 from .words import (
-    NO_LINE, changes, client_of, concerned, may, refusals, summary, topic_count, topic_of, tried,
-    verb, whom)
+    CARRIED, NO_LINE, NO_RULE, changes, client_of, concerned, may, refusals, summary, topic_count,
+    topic_of, tried, verb, whom)
 
 ROWS = 20  # of each section
 CAUSES, TOPICS = 6, 4  # of each row
@@ -30,6 +32,8 @@ def report(found: Preview, out: Terminal) -> str:
 class Report:
     def __init__(self, found: Preview, out: Terminal) -> None:
         self.found, self.out = found, out
+        self.current, self.proposed = (
+            shown(named(name)) for name in (found.current, found.proposed))
 
     def text(self) -> str:
         found = self.found
@@ -45,7 +49,8 @@ class Report:
              self.first(found.taken, self.right)),
             ("Subscriptions that can receive nothing any more",
              self.first(found.subscriptions, self.subscription)),
-            (f"New remarks on {shown(found.proposed)}", self.first(found.remarks, self.remark))]
+            (CARRIED, self.first(found.carried, self.carried)),
+            (f"New remarks on {self.proposed}", self.first(found.remarks, self.remark))]
         for title, lines in sections:
             body = list(lines)
             parts += ["\n".join([self.out.painted(BOLD, title), *body])] if body else []
@@ -56,9 +61,9 @@ class Report:
 
     def head(self) -> str:
         found = self.found
-        sources = ", ".join(map(shown, found.sources))
+        sources = ", ".join(shown(named(name)) for name in found.sources)
         return "\n".join(self.out.wrapped(
-            f"{shown(found.proposed)} in place of {shown(found.current)}, tried on {sources}: "
+            f"{self.proposed} in place of {self.current}{renamed(found)}, tried on {sources}: "
             f"{tried(found)}"))
 
     def first(self, rows: list[Row], shows: Callable[[Row], Iterable[str]]) -> Iterator[str]:
@@ -92,7 +97,8 @@ class Report:
         return [self.out.painted(colour, line) if colour else line for line in lines]
 
     def topics(self, topics: list[Topics], what: str) -> list[str]:
-        names = ", ".join(f"{listed(row.filter)}{topic_count(row)}" for row in topics[:TOPICS])
+        names = ", ".join(f"{listed(row.filter)}{arrow(row.new)}{topic_count(row)}"
+                          for row in topics[:TOPICS])
         more = f" and {len(topics) - TOPICS:,} more" if len(topics) > TOPICS else ""
         return self.out.wrapped(f"{what}{names}{more}", "      ", "        ")
 
@@ -117,10 +123,11 @@ class Report:
             client = f", client {listed(place.client)}" if place.client else ""
             yield from self.dim(f"first at line {place.line} of the script{client}", "        ")
 
-    def deciding(self, lines: Deciding, indent: str) -> list[str]:
-        """The line of each list, or that none allows it."""
+    def deciding(self, lines: Deciding, indent: str,
+                 more: Iterable[tuple[str, str]] = ()) -> list[str]:
+        """The line of each list, or that none allows it; and what else decides."""
         found = self.found
-        sides = [side(found.current, lines.current), side(found.proposed, lines.proposed)]
+        sides = [side(found.current, lines.current), side(found.proposed, lines.proposed), *more]
         width = max(len(place) for place, _ in sides)
         return [line for place, words in sides for line in
                 self.dim(f"{place.ljust(width)}  {words}", indent, indent + "    ")]
@@ -131,19 +138,38 @@ class Report:
         parts = [f"{may(right)}  {shown(topic_of(right))}", client_of(right)]
         for line in self.out.fitted(parts, "    "):
             yield self.out.painted(colour, line)
-        yield from self.deciding(right.deciding, "      ")
+        plan = self.found.plan
+        rules = [side(plan, right.rule, NO_RULE)] if plan else []
+        yield from self.deciding(right.deciding, "      ", rules)
 
     def subscription(self, one: Subscription) -> list[str]:
         user = "no user name" if one.user is None else f"user {shown(one.user)}"
         script = self.found.script
         place = at(shown(script), one.line) if script else f"line {one.line} of the script"
-        return self.out.fitted([place, f"{shown(one.client)}  {user}", shown(one.filter)], "  ")
+        wanted = shown(one.filter)
+        if one.was not in (None, one.filter):
+            wanted = f"{shown(one.was or '')} -> {wanted}"
+        return self.out.fitted([place, f"{shown(one.client)}  {user}", wanted], "  ")
+
+    def carried(self, one: Carried) -> Iterator[str]:
+        place = at(shown(named(self.name())), one.line)
+        yield from self.out.fitted([place, shown(one.was or one.words)], "  ")
+        if one.was is not None:
+            becomes = ", ".join(map(listed, one.becomes))
+            yield from self.out.wrapped(f"-> {becomes}" if becomes else "-> nothing", "      ",
+                                        "         ")
+            yield from self.dim(one.words, "      ")
+
+    def name(self) -> str:
+        """Of the script."""
+        found = self.found
+        return found.script or "the script of " + ", ".join(found.sources)
 
     def remark(self, one: Remark) -> Iterator[str]:
         if one.line is None:
             yield from self.out.wrapped(one.words, "  ", "      ")
             return
-        place = at(shown(self.found.proposed), one.line)
+        place = at(self.proposed, one.line)
         yield from self.out.fitted([place, shown((one.text or "").strip())], "  ")
         yield from self.dim(one.words, "      ")
 
@@ -153,7 +179,16 @@ def listed(name: str) -> str:
     return json.dumps(name, ensure_ascii=False) if ", " in name else shown(name)
 
 
-def side(name: str, line: Line | None) -> tuple[str, str]:
+def renamed(found: Preview) -> str:
+    return f", topics renamed by {shown(named(found.plan))}" if found.plan else ""
+
+
+def arrow(new: str | None) -> str:
+    """What a plan makes of a topic, unless it stays."""
+    return f" -> {listed(new)}" if new else ""
+
+
+def side(name: str, line: Line | None, none: str = NO_LINE) -> tuple[str, str]:
     if line is None:
-        return shown(name), NO_LINE
+        return shown(named(name)), none
     return at(shown(name), line.line), shown(line.text.strip())

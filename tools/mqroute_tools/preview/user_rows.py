@@ -62,14 +62,17 @@ class UserSum:
         self.gained: Counter[str] = Counter()
 
     def add(self, found: CopiesRow) -> None:
-        counts, topic = found.copies, found.subject.topic
-        self.row.lost += counts.lost
-        self.row.gained += counts.gained
-        self.row.changed += counts.changed
-        self.lost.update({topic: counts.lost} if counts.lost else {})
-        self.gained.update({topic: counts.gained} if counts.gained else {})
+        counts = found.copies
+        self.count(found.subject.topic, counts.lost, counts.gained, counts.changed)
         for cause in found.causes or ():
             self.add_cause(cause)
+
+    def count(self, topic: str, lost: int, gained: int, changed: int) -> None:
+        self.row.lost += lost
+        self.row.gained += gained
+        self.row.changed += changed
+        self.lost.update({topic: lost} if lost else {})
+        self.gained.update({topic: gained} if gained else {})
 
     def add_cause(self, cause: CauseRow) -> None:
         because = words(cause.cause, cause.what, publisher(cause.cause.user))
@@ -86,7 +89,7 @@ def publisher(user: str | None) -> str:
 
 
 def user_rows(losses: Losses, reasons: Reasons, found: Findings) -> list[UserRow]:
-    """Of users for whom something changes, those first that lose the largest share."""
+    """Of users for whom something changes."""
     sums: dict[str | None, UserSum] = {}
     for row in found.copies:
         sums.setdefault(row.subject.name, UserSum(row.subject.name)).add(row)
@@ -99,6 +102,11 @@ def user_rows(losses: Losses, reasons: Reasons, found: Findings) -> list[UserRow
     rows = [one.made() for one in sums.values()]
     for one in rows:
         one.clients = len(clients[one.user])
+    return in_order(rows)
+
+
+def in_order(rows: list[UserRow]) -> list[UserRow]:
+    """Those first that lose the largest share."""
     return sorted(rows, key=lambda row: (-row.share_lost(), -row.lost, -row.gained,
                                          row.user is not None, row.user or ""))
 
@@ -120,14 +128,17 @@ class RefusedSum:
 
     def add(self, found: RefusedTopic) -> None:
         newly, no_longer = found.refusals.newly.total(), found.refusals.no_longer.total()
-        self.row.refused += newly
-        self.row.accepted += no_longer
-        self.topics[found.subject.topic] += newly + no_longer
+        self.count(found.subject.topic, newly, no_longer)
         for what, names, count in (("refused", found.refusals.newly, newly),
                                    ("accepted", found.refusals.no_longer, no_longer)):
             if count:
                 because = ", ".join(sorted(names))
                 self.sums.add(Sum(what, because, found.decided), count, found.lines or ())
+
+    def count(self, topic: str, newly: int, no_longer: int) -> None:
+        self.row.refused += newly
+        self.row.accepted += no_longer
+        self.topics[topic] += newly + no_longer
 
     def made(self) -> RefusedRow:
         self.row.topics, self.row.causes = gathered(self.topics), self.sums.causes()
@@ -135,7 +146,7 @@ class RefusedSum:
 
 
 def refused_rows(reasons: Reasons, found: Findings) -> list[RefusedRow]:
-    """Of users of whose publishes one list alone refuses some, those with the most first."""
+    """Of users of whose publishes one list alone refuses some."""
     sums: dict[str | None, RefusedSum] = {}
     for row in found.refused:
         if row.refusals.newly or row.refusals.no_longer:
@@ -145,5 +156,10 @@ def refused_rows(reasons: Reasons, found: Findings) -> list[RefusedRow]:
     rows = [one.made() for one in sums.values()]
     for one in rows:
         one.clients = len(clients[one.user])
+    return refused_in_order(rows)
+
+
+def refused_in_order(rows: list[RefusedRow]) -> list[RefusedRow]:
+    """Those first with the most."""
     return sorted(rows, key=lambda row: (-row.refused, -row.accepted, row.user is not None,
                                          row.user or ""))

@@ -1,6 +1,7 @@
 """The command that shows why a client was sent a message, to be pasted into a shell."""
 import argparse
 import shlex
+from collections.abc import Mapping
 
 from .findings import Cause
 
@@ -29,8 +30,9 @@ class WhyCommand:
     """For the files and options of a preview; none without a script that can be read again."""
 
     def __init__(self, options: argparse.Namespace, script: str | None,
-                 publishes: set[int]) -> None:
-        self.publishes = publishes  # lines of the script
+                 publishes: Mapping[int, int]) -> None:
+        # by the lines that causes have, those of the script
+        self.publishes = publishes
         self.script = script
         self.words = ["mqroute-why", "--acl-file", file_word(options.proposed)]
         if options.rules:
@@ -48,5 +50,6 @@ class WhyCommand:
             if line in self.publishes:
                 client = quoted(place.client)
                 client = f"--client={client}" if place.client.startswith("-") else client
-                return " ".join([*self.words, file_word(self.script), str(line), client])
+                return " ".join([*self.words, file_word(self.script),
+                                 str(self.publishes[line]), client])
         return None

@@ -9,7 +9,8 @@ from .gathered_topics import Topics
 MOST_NAMES = 4  # of user names that a right is of
 NO_NAME = "clients without a user name"
 RULES = {"own": "mqroute's own rules", "mosquitto": "mosquitto's rules"}
-NO_LINE = "no line allows it"
+NO_LINE, NO_RULE = "no line allows it", "no line is about it"
+CARRIED = "What the plan can't carry over as it is"
 OTHERWISE = "another QoS, RETAIN flag, payload or expiry"
 
 
@@ -122,10 +123,12 @@ def level_shown(client: Client, place: int, level: str) -> str:
 
 
 def topic_of(right: Right) -> str:
-    """The topic, with what stands for others in the place of its levels."""
+    """The topic, and the new name that a plan gives it, with what stands for others in the place of
+    their levels."""
     first = right.clients[0]
-    return "/".join(level_shown(first, place, level)
-                    for place, level in enumerate(right.topic.split("/")))
+    names = dict.fromkeys([right.topic, right.new_topic or right.topic])
+    return " -> ".join("/".join(level_shown(first, place, level)
+                                for place, level in enumerate(name.split("/"))) for name in names)
 
 
 def client_of(right: Right) -> str:

@@ -11,6 +11,7 @@ from dataclasses import dataclass
 from typing import Any, NamedTuple
 
 from ..common.files import STDIN, open_input, plain_file
+from ..common.messages import named
 from ..common.programs import find_program, output_of
 
 NO_LINE = "no line allows it"
@@ -82,7 +83,7 @@ class AccessList:
         user = [] if asked.user is None else [f"--user={asked.user}"]
         words = [self.program, "why", "--json", *self.options, *user, "--", self.path,
                  asked.client, asked.topic]
-        done = output_of(words, lambda text: text.replace(self.path, self.name), (0,))
+        done = output_of(words, lambda text: text.replace(self.path, named(self.name)), (0,))
         told = map(self.verdict_of, done.stdout.decode("utf-8").splitlines())
         return {one.access: one for one in told}
 

@@ -1,6 +1,7 @@
-"""check: names what is wrong in each line of a script that is no command: no JSON, an unknown
-command, a field that is missing, unknown, of another kind or out of range. These are the lines that
-mqroute refuses with code 1 to 4.
+"""check: names what is wrong in each line of a script that mqroute refuses whatever stands before:
+no JSON, an unknown command, a field that is missing, unknown, of another kind or out of range; a
+client id, a user name, a topic or a filter that is none. These are the lines that mqroute refuses
+with code 1 to 6 or 8 to 10.
 
 Exit status: 0 nothing is wrong; 1 something is; 2 usage, a file, or a file without a command.
 """
@@ -8,27 +9,60 @@ import argparse
 import sys
 
 from ..common.files import STDIN, at, keep_apart, open_input
-from .commands import Seen, line_faults
-from .output import is_blank
+from .commands import Seen, read_line
+from .output import Command, is_blank
+from .text_faults import shown, text_faults
 
 SHOWN = 20  # faulty lines of a file most of whose lines are no commands
+
+
+class Subscribed:
+    """Who is connected, and which filters clients have subscribed to."""
+
+    def __init__(self) -> None:
+        self.connected: set[str] = set()
+        self.known: set[tuple[str, str]] = set()
+
+    def remark(self, command: Command) -> str:
+        """Of a command that is answered with a reason code, and does nothing."""
+        do, client = command["do"], command.get("client", "")
+        if do == "connect":
+            self.connected.add(client)
+        elif do == "disconnect":
+            self.connected.discard(client)
+        elif do == "subscribe":
+            self.known.add((client, command["filter"]))
+        elif do == "unsubscribe" and client in self.connected:
+            return self.unsubscribe(client, command["filter"])
+        return ""
+
+    def unsubscribe(self, client: str, wanted: str) -> str:
+        if (client, wanted) in self.known:
+            return ""
+        return (f"remark: {shown(client)} hasn't subscribed to {shown(wanted)}, so that this is "
+                "answered 17, and not refused")
 
 
 class Check:
     """Prints what is wrong, of a file that is no script in the first lines alone."""
 
     def __init__(self, name: str) -> None:
-        self.name, self.seen = name, Seen(name)
+        self.name, self.seen, self.subscribed = name, Seen(name), Subscribed()
         self.right = self.wrong = self.hidden = 0
 
     def line(self, number: int, line: bytes) -> None:
         self.seen.add(line)
-        faults = line_faults(line.removesuffix(b"\n"))
+        command, faults = read_line(line.removesuffix(b"\n"))
+        if command is not None:
+            faults = list(text_faults(command))
         self.right += not faults and not is_blank(line)
         self.wrong += bool(faults)
         if self.hidden or (faults and self.wrong > SHOWN and self.wrong > self.right):
             self.hidden += bool(faults)
             return
+        if command is not None and not faults:
+            remark = self.subscribed.remark(command)
+            faults = [remark] if remark else []
         for fault in faults:
             told = f"{at(self.name, number)}: {fault}\n"
             sys.stdout.buffer.write(told.encode("utf-8", "backslashreplace"))
@@ -42,7 +76,8 @@ class Check:
 
 
 def add_arguments(parser: argparse.ArgumentParser) -> None:
-    parser.description = "Names what is wrong in each line of a script that is no command."
+    parser.description = ("Names what is wrong in each line of a script that mqroute refuses "
+                          "whatever stands before.")
     parser.add_argument("script", nargs="?", default=STDIN,
                         help="standard input where it is absent or -")
 

@@ -95,16 +95,23 @@ def guess_of_do(value: dict[str, Any]) -> str:
     return f" ({shown(named[0])} is {shown(value[named[0]])})" if named else ""
 
 
-def line_faults(line: bytes) -> list[str]:
-    """What is wrong in a line without its line feed."""
+def read_line(line: bytes) -> tuple[Command | None, list[str]]:
+    """The command on a line without its line feed, or None; and what is wrong in the line."""
     if len(line) > LINE_LIMIT:
-        return [f"{len(line):,} bytes, where {LINE_LIMIT:,} may be"]
+        return None, [f"{len(line):,} bytes, where {LINE_LIMIT:,} may be"]
     if is_blank(line):
-        return []
+        return None, []
     try:
-        return value_faults(read(line))
+        value = read(line)
     except NoJson as fault:
-        return [f"no JSON: {fault}"]
+        return None, [f"no JSON: {fault}"]
+    found = value_faults(value)
+    return None if found else value, found
+
+
+def line_faults(line: bytes) -> list[str]:
+    """What is wrong in a line without its line feed, by which it is no command."""
+    return read_line(line)[1]
 
 
 def faults(lines: Iterable[bytes]) -> Iterator[tuple[int, str]]:

@@ -3,10 +3,12 @@ import json
 import re
 
 from ..common.exit_status import Fault
+from ..common.messages import named
 from .syslog import PREFIX
 
 HEAD = 1 << 14  # bytes that are looked at
 SHOWN = 60  # characters of the first line
+COMMENTS = ("#", "//")  # how a line begins that people take for one
 
 PACKETS = ("CONNECT|CONNACK|PUBLISH|PUBACK|PUBREC|PUBREL|PUBCOMP|SUBSCRIBE|SUBACK"
            "|UNSUBSCRIBE|UNSUBACK|PINGREQ|PINGRESP|DISCONNECT|AUTH")
@@ -69,13 +71,13 @@ def kind(head: bytes) -> str:
     lines = [line for line in text.splitlines() if line.strip()]
     if not lines:
         return ""
-    if of_json(lines[0]):
-        return of_json(lines[0])
+    plain = [line for line in lines if not line.lstrip().startswith(COMMENTS)]
+    if plain and of_json(plain[0]):
+        return of_json(plain[0])
     if SOMEWHERE.search(text):
         return LOG
     if PREFIX.match(lines[0]):
         return "a log of other programs"
-    plain = [line for line in lines if not line.startswith("#")]
     return "an access list" if plain and LIST.match(plain[0]) else ""
 
 
@@ -93,6 +95,7 @@ def is_empty(head: bytes) -> bool:
 
 def wrong(name: str, head: bytes, lacks: str, hints: dict[str, str] = {}) -> Fault:
     """That another file was wanted: what this one lacks, what it looks like, its first line."""
+    name = named(name)
     if is_empty(head):
         return Fault(f"{name}: {'empty' if not head else 'blank'}: {lacks}")
     what = kind(head)

@@ -5,6 +5,7 @@ import subprocess
 import tempfile
 from collections.abc import Iterable, Iterator
 from pathlib import Path
+from typing import IO
 
 from ..common.exit_status import Fault
 from ..common.programs import find_program
@@ -12,6 +13,7 @@ from .output import Answer, Block, Command, blocks_of
 
 
 RULES = ("own", "mosquitto")  # of access lists
+PIECE = 1 << 20
 
 
 class OracleFault(Exception):
@@ -22,23 +24,41 @@ def found_program() -> str:
     return find_program("MQROUTE", "mqroute")
 
 
-def answers(words: list[str], script: bytes, first: int = 1) -> list[Block]:
-    """What mqroute, run by these words, answers to a script, from a line of the script on."""
-    try:
-        done = subprocess.run(words, input=script, capture_output=True)
-    except OSError as fault:
-        raise Fault(f"cannot run {words[0]}: {fault.strerror}") from fault
-    if done.returncode not in (0, 1):
-        raise Fault(done.stderr.decode("utf-8", "replace").strip()
-                    or f"mqroute ended with status {done.returncode}")
-    # no text in an answer has these bytes: its quotes are escaped
-    place = done.stdout.find(b'"line":%d,' % first) if first > 1 else 0
-    begin = done.stdout.rfind(b"\n", 0, place) + 1 if place >= 0 else len(done.stdout)
-    try:
-        output = io.StringIO(done.stdout[begin:].decode("utf-8"), newline="\n")
-    except UnicodeDecodeError as fault:
-        raise Fault(f"the answer: no output of mqroute: {fault}") from fault
-    return list(blocks_of(output, "the answer"))
+def answers(words: list[str], script: bytes) -> list[Block]:
+    """What mqroute, run by these words, answers to a script."""
+    return list(each_answer(words, [script]))
+
+
+def each_answer(words: list[str], script: Iterable[bytes], first: int = 1) -> Iterator[Block]:
+    """The same, from a line of the script on: what mqroute wrote stands in a file meanwhile."""
+    with tempfile.TemporaryFile() as given, tempfile.TemporaryFile() as written:
+        given.writelines(script)
+        given.seek(0)
+        try:
+            done = subprocess.run(words, stdin=given, stdout=written, stderr=subprocess.PIPE)
+        except OSError as fault:
+            raise Fault(f"cannot run {words[0]}: {fault.strerror}") from fault
+        if done.returncode not in (0, 1):
+            raise Fault(done.stderr.decode("utf-8", "replace").strip()
+                        or f"mqroute ended with status {done.returncode}")
+        written.seek(0)
+        # no text in an answer has these bytes: its quotes are escaped
+        written.seek(place_of(written, b'"line":%d,' % first) if first > 1 else 0)
+        with io.TextIOWrapper(written, encoding="utf-8", newline="\n") as lines:
+            yield from blocks_of(lines, "the answer")
+
+
+def place_of(stream: IO[bytes], wanted: bytes) -> int:
+    """Where the first line begins that has these bytes; where none has, the end."""
+    begin, text = 0, b""  # what is read of the lines that aren't passed
+    while piece := stream.read(PIECE):
+        text += piece
+        place = text.find(wanted)
+        if place >= 0:
+            return begin + text.rfind(b"\n", 0, place) + 1
+        passed = text.rfind(b"\n") + 1
+        begin, text = begin + passed, text[passed:]
+    return begin + len(text)
 
 
 class Conversation:

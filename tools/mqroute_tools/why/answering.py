@@ -12,6 +12,7 @@ from .history import History
 from .later import Later, Waiting
 from .lines import Question
 from .reckoning import Publish, Reckoning
+from .references import ref
 from .runs import Runs
 
 SHOWN = 3  # refused subscribes
@@ -22,7 +23,7 @@ def answered(asked: Question, given: AccessList | None,
              options: argparse.Namespace) -> list[Answer]:
     """Of the client, or of each that has connected by the line."""
     runs = Runs(options, asked.script, given)
-    blocks = runs.all()
+    blocks = runs.all(asked.line)
     publish = Publish(asked.line, asked.publish, block_of(asked, blocks))
     history = History()
     for place in asked.script.accepted(blocks, 1, asked.line - 1):
@@ -45,7 +46,7 @@ def add_refused(asked: Question, blocks: dict[int, Block], first: Cause) -> None
     """The last subscribes that were refused, of a client that isn't subscribed."""
     if first.kind in (causes.NO_SUBSCRIPTION, causes.NO_SESSION) and asked.client is not None:
         refused = list(asked.script.refused(blocks, asked.client, asked.line))[-SHOWN:]
-        first.details += [f"its subscribe at line {block.line} was refused ({block.refused})"
+        first.details += [f"its subscribe at {ref(block.line)} was refused ({block.refused})"
                           for block in refused]
 
 
@@ -84,9 +85,9 @@ def add_later(answer: Answer, after: Later) -> None:
         if cause.kind == causes.WAITS:
             settle(cause, after.waiting[client])
     if first.kind == causes.NO_SESSION and client in after.connects:
-        first.details.append(f"it connects at line {after.connects[client]}")
+        first.details.append(f"it connects at {ref(after.connects[client])}")
     elif first.kind == causes.NO_SUBSCRIPTION and client in after.subscribes:
-        first.details.append(f"it subscribes to it at line {after.subscribes[client]}")
+        first.details.append(f"it subscribes to it at {ref(after.subscribes[client])}")
     if not answer.got() and client in after.retained:
         first.came = after.retained[client]
         first.words += "; later sent as a retained message"
@@ -102,8 +103,8 @@ def settle(cause: Cause, held: Waiting) -> None:
         cause.words = "away: the copy waited until the client was back"
     elif held.kind == causes.EXPIRED:
         cause.words = "away: the copy waited, and had expired when the client was back"
-        cause.facts = f" (since line {cause.away}, back at line {ending.line})"
+        cause.facts = f" (since {ref(cause.away)}, back at {ref(ending.line)})"
     else:
         cause.words = "away: the copy waited, and its session ended before the client was back"
         cause.ended = ending.line
-        cause.facts = f" (since line {cause.away}; {ending.in_words()})"
+        cause.facts = f" (since {ref(cause.away)}; {ending.in_words()})"

@@ -1,8 +1,10 @@
 """The causes, in the order in which they are looked at, and how they are shown."""
+from collections.abc import Callable
 from dataclasses import asdict, dataclass, field
 from typing import Any
 
 from ..script.access_list import Verdict
+from .references import lines_in, resolved
 
 # Of the line, as mqroute refuses it.
 REFUSALS = ("ClientId", "NotConnected", "TopicName", "NotAuthorized", "RetainedFull")
@@ -46,11 +48,19 @@ class Answer:
         return any(cause.came for cause in self.causes)
 
 
-def as_object(client: str, line: int, topic: str, cause: Cause) -> dict[str, Any]:
+def as_object(client: str, line: int, topic: str, cause: Cause,
+              called: Callable[[int], str]) -> dict[str, Any]:
     verdict = cause.verdict
     deny, grant = (verdict.deny, verdict.grant) if verdict else (None, None)
     return {"client": client, "line": line, "topic": topic, "cause": cause.kind,
             "came": cause.came or None, "group": cause.group, "subscribed": cause.subscribed,
-            "away": cause.away or None, "ended": cause.ended or None, "words": cause.text(),
+            "away": cause.away or None, "ended": cause.ended or None,
+            "words": resolved(cause.text(), called),
             "deny": deny and asdict(deny), "grant": grant and asdict(grant),
-            "details": cause.details}
+            "details": [resolved(detail, called) for detail in cause.details]}
+
+
+def lines_of(line: int, cause: Cause) -> list[int]:
+    """All that are named."""
+    named = {line, cause.came, cause.away, cause.ended, *cause.subscribed}
+    return sorted(named.union(*map(lines_in, [cause.text(), *cause.details])) - {0})

@@ -8,7 +8,9 @@ from ..script.output import Block, Command, read_json
 from ..script.sessions import FOREVER
 from ..script.topics import matches, plain_filter
 from .disagreement import Disagreement
+from .references import ref
 
+GROUP = '"share":'  # what the copy of a group has
 NOT_KEPT = "and its session isn't kept: Session Expiry Interval 0"
 
 
@@ -28,7 +30,7 @@ class Subscription:
         return matches(plain_filter(self.filter), topic)
 
     def in_words(self) -> str:
-        return f"line {self.line} {shown(self.filter)}"
+        return f"{ref(self.line)} {shown(self.filter)}"
 
 
 @dataclass
@@ -51,7 +53,7 @@ class Ending:
     how: str
 
     def in_words(self) -> str:
-        return f"line {self.line}: {self.how}"
+        return f"{ref(self.line)}: {self.how}"
 
 
 Lost = tuple[Subscription, Ending]
@@ -135,7 +137,7 @@ class History:
 
     def turn(self, number: int, block: Block) -> None:
         for text in block.copies:
-            copy = read_json(text) if '"share":' in text else {}
+            copy = read_json(text) if GROUP in text else {}
             if "share" in copy:  # and not in another text alone
                 self.serve(number, copy["client"], f"$share/{copy['share']}/{copy['filter']}")
 
@@ -151,5 +153,5 @@ class History:
             end, client = heapq.heappop(self.ends)
             session = self.sessions.get(client)
             if session and session.end == end:
-                how = f"it had been away since line {session.left}, and its session expired"
+                how = f"it had been away since {ref(session.left)}, and its session expired"
                 self.finish(client, Ending(number, how))

@@ -1,5 +1,5 @@
 """What is asked: a script, the line of a publish in it, and a client or none."""
-from collections.abc import Iterator
+from collections.abc import Callable, Iterator
 from dataclasses import dataclass
 
 from ..common.exit_status import Fault
@@ -18,6 +18,8 @@ class Script:
     name: str
     lines: list[bytes]  # each with a line feed
     commands: list[Command | None]
+    called: Callable[[int], str] = "line {}".format  # what a line is called
+    is_of_log: bool = False
 
     def publish(self, number: int) -> Command:
         """The command of a line, which has to be a publish."""

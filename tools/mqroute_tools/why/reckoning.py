@@ -7,11 +7,13 @@ from typing import Any
 from ..common.tables import shown
 from ..script.access_list import Verdict
 from ..script.output import Block, Command
+from ..script.text_faults import name_fault, text_fault
 from . import causes, wording
 from .access import Access, may
 from .causes import Answer, Cause
 from .disagreement import Disagreement
 from .history import History, Lost, Session, Subscription
+from .references import ref
 from .runs import QUEUE_ALL, RETAIN_ALL, Runs
 
 Copy = dict[str, Any]
@@ -48,7 +50,7 @@ class Way:
         self.details = [wording.options(one) for one in self.subscriptions]
 
     def since(self) -> str:
-        return f"since line {self.session.left}"
+        return f"since {ref(self.session.left)}"
 
     def cause(self, kind: str, words: str, facts: str = "",
               verdict: Verdict | None = None) -> Cause:
@@ -89,13 +91,13 @@ class Reckoning:
         reckoned, words, verdict = self.first_refusal()
         if reckoned != name:
             raise self.disagreement(f"it is refused, {name}, and not {reckoned or 'at all'}")
-        return Cause(name, f"line {self.publish.line} is refused, {name}: {words}", verdict=verdict)
+        return Cause(name, f"{ref(self.publish.line)} is refused, {name}: {words}", verdict=verdict)
 
     def first_refusal(self) -> tuple[str, str, Verdict | None]:
         """By the order of the definition, and why."""
         line, client, topic = self.publish.line, self.publish.client, self.publish.topic
-        session, fault = self.history.sessions.get(client), wording.name_fault(topic)
-        if not wording.can_be_id(client):
+        session, fault = self.history.sessions.get(client), name_fault(topic)
+        if text_fault(client):
             return "ClientId", "no client has such an id", None
         if session is None or session.left:
             return "NotConnected", f"{shown(client)}: {self.absence(client)}", None
@@ -114,9 +116,9 @@ class Reckoning:
         """Why the client isn't connected."""
         session, ended = self.history.sessions.get(client), self.history.ended.get(client)
         if session is not None:
-            return f"away since line {session.left}"
+            return f"away since {ref(session.left)}"
         if ended is not None:
-            return f"its session ended at line {ended.line}: {ended.how}"
+            return f"its session ended at {ref(ended.line)}: {ended.how}"
         return wording.NEVER
 
     # -- of a client

@@ -4,6 +4,7 @@ from collections import defaultdict
 from ..common.tables import shown, table
 from .causes import Answer, Cause
 from .lines import Question
+from .references import resolved
 
 MOST_NAMED = 4  # clients of one row
 HEAD = ["client", "copy", "why"]
@@ -22,8 +23,9 @@ def head(asked: Question) -> str:
 def report(asked: Question, answers: list[Answer]) -> str:
     found = [(answer.client, cause) for answer in answers for cause in answer.causes]
     found.sort(key=lambda pair: rank(asked.line, pair[1]))
-    return head(asked) + (rows_of_all(asked, found) if asked.client is None else
-                          rows_of_one(asked, [cause for _, cause in found])) + "\n"
+    text = (rows_of_all(asked, found) if asked.client is None else
+            rows_of_one(asked, [cause for _, cause in found]))
+    return head(asked) + text + "\n"
 
 
 def rows_of_all(asked: Question, found: list[tuple[str, Cause]]) -> str:
@@ -31,17 +33,20 @@ def rows_of_all(asked: Question, found: list[tuple[str, Cause]]) -> str:
     rows: defaultdict[tuple[int, str], dict[str, Cause]] = defaultdict(dict)
     for client, cause in found:
         rows[cause.came, cause.words].setdefault(client, cause)
-    return table(HEAD, ([named(list(row)), when(asked.line, came),
-                         words if len(row) > 1 else next(iter(row.values())).text()]
-                        for (came, words), row in rows.items()))
+    called = asked.script.called
+    return table(HEAD, ([named(list(row)), when(asked, came), resolved(
+        words if len(row) > 1 else next(iter(row.values())).text(), called)]
+        for (came, words), row in rows.items()))
 
 
 def rows_of_one(asked: Question, found: list[Cause]) -> str:
     """With the details."""
-    lines = table(HEAD, ([shown(asked.client or ""), when(asked.line, cause.came), cause.text()]
-                         for cause in found)).split("\n")
+    called = asked.script.called
+    lines = table(HEAD, ([shown(asked.client or ""), when(asked, cause.came),
+                          resolved(cause.text(), called)] for cause in found)).split("\n")
     for line, cause in enumerate(found, 1):
-        lines[line] = "\n".join([lines[line], *(INDENT + detail for detail in cause.details)])
+        details = (INDENT + resolved(detail, called) for detail in cause.details)
+        lines[line] = "\n".join([lines[line], *details])
     return "\n".join(lines)
 
 
@@ -56,5 +61,5 @@ def named(clients: list[str]) -> str:
     return f"{names} and {more} more" if more > 0 else names
 
 
-def when(line: int, came: int) -> str:
-    return "no" if not came else "yes" if came == line else f"line {came}"
+def when(asked: Question, came: int) -> str:
+    return "no" if not came else "yes" if came == asked.line else asked.script.called(came)

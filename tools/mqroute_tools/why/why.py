@@ -17,7 +17,7 @@ from ..log.options import NAMES, add_log_options, given_options
 from ..script.access_list import AccessList
 from ..script.oracle import RULES
 from .answering import answered
-from .causes import Answer, as_object
+from .causes import Answer, as_object, lines_of
 from .lines import Question, read_script
 from .report import report
 
@@ -71,8 +71,15 @@ def questions(options: argparse.Namespace) -> list[Question]:
 
 
 def as_lines(asked: Question, answers: list[Answer]) -> str:
-    objects = [as_object(answer.client, asked.line, asked.publish["topic"], cause)
-               for answer in answers for cause in answer.causes]
+    script, topic = asked.script, asked.publish["topic"]
+    objects = []
+    for answer in answers:
+        for cause in answer.causes:
+            one = as_object(answer.client, asked.line, topic, cause, script.called)
+            if script.is_of_log:
+                one["log"] = {str(line): script.called(line)
+                              for line in lines_of(asked.line, cause)}
+            objects.append(one)
     return "".join(json.dumps(one, ensure_ascii=False) + "\n" for one in objects)
 
 

@@ -7,24 +7,6 @@ from .history import Ending, Lost, Session, Subscription
 
 SHOWN = 3  # subscriptions that match nearly
 NEVER = "it hasn't connected"
-MOST_LEVELS, MOST_BYTES = 200, 65_535
-
-
-def name_fault(topic: str) -> str:
-    """Why this is no topic name (4.7.1, 4.7.3); empty where it is one."""
-    if not topic:
-        return "it is empty"
-    if len(topic.encode("utf-8")) > MOST_BYTES:
-        return f"it has more than {MOST_BYTES:,} bytes"
-    if "\0" in topic:
-        return "it has U+0000"
-    if "+" in topic or "#" in topic:
-        return "it has a wildcard"
-    return f"it has more than {MOST_LEVELS} levels" if topic.count("/") >= MOST_LEVELS else ""
-
-
-def can_be_id(client: str) -> bool:
-    return 0 < len(client.encode("utf-8")) <= MOST_BYTES and "\0" not in client
 
 
 def listed(subscriptions: Iterable[Subscription]) -> str:
