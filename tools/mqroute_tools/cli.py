@@ -23,7 +23,7 @@ class Entry(NamedTuple):
 SUBCOMMANDS = {
     "log-to-script": Entry("log.log_to_script", "makes a script for mqroute of a mosquitto log"),
     "who-loses": Entry(
-        "losses.who_loses", "tells who loses which copies between two runs of a script"),
+        "losses.who_loses", "shows who loses which copies between two runs of a script"),
     "why": Entry("why.why", "shows why a client was sent a message of a script, or wasn't"),
     "preview": Entry("preview.preview", "shows what a proposed access list would change"),
     "plan": Entry("plan.plan", "shows what a change of topics makes of lists and scripts"),

@@ -25,8 +25,8 @@ lists, name = {}, None
 for number, line in enumerate(open(file).read().splitlines(), 1):
     name = line[5:] if line.startswith("user ") else name
     if line.startswith("topic deny "):
-        told = {"file": file, "line": number, "text": f"{line}  "}
-        lists.setdefault((name, line.split()[-1]), told)
+        shown = {"file": file, "line": number, "text": f"{line}  "}
+        lists.setdefault((name, line.split()[-1]), shown)
 for access in ("read", "write"):
     grant = {"file": file, "line": 1, "text": "pattern readwrite #"}
     deny = lists.get((user[0].removeprefix("--user="), topic)) if user else None
@@ -36,8 +36,8 @@ for access in ("read", "write"):
     LISTS = ("--acl-before", "before.acl", "--acl-after", "after.acl")
     SWAPPED = ("--acl-before", "after.acl", "--acl-after", "before.acl")
 
-    def told(self, script: list[dict], after: str, *words: str, lists=LISTS, before: str = ALL,
-             **more) -> subprocess.CompletedProcess:
+    def shown(self, script: list[dict], after: str, *words: str, lists=LISTS, before: str = ALL,
+              **more) -> subprocess.CompletedProcess:
         folder = tempfile.TemporaryDirectory()
         self.addCleanup(folder.cleanup)
         program = Path(folder.name, "why")
@@ -51,20 +51,20 @@ for access in ("read", "write"):
 
     def test_readers_and_publishers(self):
         script = [P, R, subscribe("r"), publish("p")]
-        told = "1: pattern readwrite # -> 3: topic deny x"
+        shown = "1: pattern readwrite # -> 3: topic deny x"
         for after, cause in ((NO_READING, "may no longer read 1"),
                              (NO_WRITING, "publish by meter refused (NotAuthorized) 1")):
-            self.assertIn(f"{cause} ({told})", self.told(script, after).stdout)
-            by_user = self.told(script, after, "--by", "user").stdout
-            self.assertRegex(by_user, rf"lost +1 +.* 4  {re.escape(told)}\n")
-            [row] = json.loads(self.told(script, after, "--json").stdout)["copies"]
+            self.assertIn(f"{cause} ({shown})", self.shown(script, after).stdout)
+            by_user = self.shown(script, after, "--by", "user").stdout
+            self.assertRegex(by_user, rf"lost +1 +.* 4  {re.escape(shown)}\n")
+            [row] = json.loads(self.shown(script, after, "--json").stdout)["copies"]
             self.assertEqual(row["causes"][0]["decided"]["after"]["deny"]["line"], 3)
         self.assertRegex(
-            self.told(script, NO_WRITING).stdout, rf"NotAuthorized 1  {re.escape(told)}\n")
+            self.shown(script, NO_WRITING).stdout, rf"NotAuthorized 1  {re.escape(shown)}\n")
 
     def test_on_the_page(self):
         with tempfile.TemporaryDirectory() as folder:
-            self.told([P, R, subscribe("r"), publish("p")], NO_READING, "--html", f"{folder}/page")
+            self.shown([P, R, subscribe("r"), publish("p")], NO_READING, "--html", f"{folder}/page")
             page = Path(folder, "page").read_text("utf-8")
         self.assertIn(
             "<div>before: <code><bdi>1: pattern readwrite #</bdi></code></div><div>after: "
@@ -76,7 +76,7 @@ for access in ("read", "write"):
 
     def test_each_pair_of_lines(self):
         """Each has a row with its own number of copies, and each topic is asked for once."""
-        done = self.told(self.THREE, self.TWO, "--by", "user", "--depth", "1")
+        done = self.shown(self.THREE, self.TWO, "--by", "user", "--depth", "1")
         grant = "1: pattern readwrite #"
         rows = [line.split("may no longer read")[0].split() + [line.split("  ")[-1]]
                 for line in done.stdout.splitlines() if line.startswith("ops")]
@@ -84,7 +84,7 @@ for access in ("read", "write"):
                                 ["ops", "2", "x/#", "lost", "2", f"{grant} -> 4: topic deny x/2"]])
         self.assertEqual(len(self.asked), len(set(self.asked)))
         self.assertEqual(len(self.asked), 4)
-        done = self.told(self.THREE, self.TWO, "--by", "user", "--depth", "1", "--json")
+        done = self.shown(self.THREE, self.TWO, "--by", "user", "--depth", "1", "--json")
         [row] = json.loads(done.stdout)["copies"]
         denied = [cause["decided"]["after"]["deny"]["line"] for cause in row["causes"]]
         lines = [[at["line"] for at in cause["lines"]] for cause in row["causes"]]
@@ -93,11 +93,11 @@ for access in ("read", "write"):
         self.assertEqual((row["lost"], row["clients"]), (6, 2))
         self.assertIn(f"may no longer read 2 ({grant} -> 3: topic deny x/1), "
                       f"may no longer read 1 ({grant} -> 4: topic deny x/2)",
-                      self.told(self.THREE, self.TWO, "--depth", "1").stdout)
+                      self.shown(self.THREE, self.TWO, "--depth", "1").stdout)
 
     def test_each_pair_of_lines_on_the_page(self):
         with tempfile.TemporaryDirectory() as folder:
-            self.told(self.THREE, self.TWO, "--depth", "1", "--html", f"{folder}/page")
+            self.shown(self.THREE, self.TWO, "--depth", "1", "--html", f"{folder}/page")
             page = Path(folder, "page").read_text("utf-8")
         for number in ("3: topic deny x/1", "4: topic deny x/2"):
             cell = f"<small><bdi>1: pattern readwrite # -&gt; {number}</bdi></small>"
@@ -108,7 +108,7 @@ for access in ("read", "write"):
         denied = ALL + "user meter\ntopic deny x/0\n"
         script = [P, *(publish("p", f"x/{n}") for n in (0, 1, 2, 0, 1))]
         after = denied + "topic deny x/1\ntopic deny x/2\n"
-        done = self.told(script, after, "--by", "user", "--depth", "1", before=denied)
+        done = self.shown(script, after, "--by", "user", "--depth", "1", before=denied)
         grant = "1: pattern readwrite #"
         self.assertEqual(done.stdout.partition("Refused\n")[2].partition("\n\n")[0], f"""\
 user   clients  topic  before  after  why              decided by
@@ -121,7 +121,7 @@ meter        1  x/#         2      2  refused in both""")
         later = connect("r", "boss", kept=True)
         waited = [*AWAY, publish("p", qos=1), publish("p", "y", qos=1), later]
         for script in ([P, R, subscribe("r"), publish("p"), connect("r", "boss")], waited):
-            done = self.told(script, NO_READING, "--why")
+            done = self.shown(script, NO_READING, "--why")
             self.assertIn("may no longer read 1 (1: pattern readwrite # -> 3: topic deny x)",
                           done.stdout, done.stderr)
 
@@ -133,12 +133,12 @@ meter        1  x/#         2      2  refused in both""")
         script = [P, R, subscribe("r"), publish("p")]
         swapped = ("swapped? line 4 of the script: after.acl doesn't let {} x, "
                    "and the output before shows that it may").format
-        done = self.told(script, NO_READING, lists=self.SWAPPED)
+        done = self.shown(script, NO_READING, lists=self.SWAPPED)
         self.contradicts(done, swapped("r (user ops) read"))
-        done = self.told(script, NO_WRITING, lists=self.SWAPPED)
+        done = self.shown(script, NO_WRITING, lists=self.SWAPPED)
         self.contradicts(done, swapped("p (user meter) write"))
         before = ("--acl-before", "before.acl", "--acl-after", "before.acl")
-        self.contradicts(self.told(script, NO_READING, lists=before),
+        self.contradicts(self.shown(script, NO_READING, lists=before),
                          "line 4 of the script: before.acl lets r (user ops) read x, "
                          "and the output after shows that it may not")
 
@@ -149,25 +149,25 @@ meter        1  x/#         2      2  refused in both""")
         queue = [*AWAY, publish("p", qos=1), publish("p", qos=1), publish("p", qos=1), BACK]
         full = ["--max-retained", "1"], ["--max-retained", "0"]
         for lists in (self.LISTS, self.SWAPPED):
-            self.assertEqual(self.told(own, NO_READING, lists=lists).returncode, 1)
+            self.assertEqual(self.shown(own, NO_READING, lists=lists).returncode, 1)
             self.assertEqual(self.asked, [])
             few = {"lists": lists, "options": ([], ["--max-queued", "1"])}
-            done = self.told(queue, NO_READING, before=NO_READING, **few)
+            done = self.shown(queue, NO_READING, before=NO_READING, **few)
             self.assertEqual((done.returncode, done.stderr), (0, ""))
-            self.assertIn("queue full 2", self.told(queue, ALL, **few).stdout)
+            self.assertIn("queue full 2", self.shown(queue, ALL, **few).stdout)
             store = [P, R, publish("p", retain=True), subscribe("r")]
-            done = self.told(store, NO_READING, lists=lists, before=NO_READING, options=full)
+            done = self.shown(store, NO_READING, lists=lists, before=NO_READING, options=full)
             self.assertIn("RetainedFull 1", done.stdout)
         group = [subscribe(client, "$share/g/x") for client in ("a", "b")]
         turns = [P, connect("q"), connect("a"), connect("b"), *group,
                  publish("p"), publish("q"), publish("q")]
-        self.assertEqual(self.told(turns, NO_WRITING).stdout.count("another member's turn 2"), 2)
+        self.assertEqual(self.shown(turns, NO_WRITING).stdout.count("another member's turn 2"), 2)
 
     def test_not_under_another_list(self):
-        done = self.told([P, R, {"do": "acl", "text": NO_READING}, subscribe("r"), publish("p")],
-                         NO_WRITING, "--why")
+        done = self.shown([P, R, {"do": "acl", "text": NO_READING}, subscribe("r"), publish("p")],
+                          NO_WRITING, "--why")
         self.assertNotIn("->", done.stdout)
-        done = self.told([P, R, subscribe("r"), publish("p"), {"do": "acl"}], NO_READING, "--why")
+        done = self.shown([P, R, subscribe("r"), publish("p"), {"do": "acl"}], NO_READING, "--why")
         self.assertIn("->", done.stdout)
 
     def test_faults(self):

@@ -124,7 +124,7 @@ class Causes(Compared):
               [(9, 6)])])
 
     def test_waited_among_equal_ones(self):
-        """Messages that say the same are told apart by which of them were accepted."""
+        """Messages that say the same are kept apart by which of them were accepted."""
         script = [*AWAY, connect("q"), publish("q", qos=1), publish("p", qos=1),
                   publish("q", qos=1), BACK]
         self.assertEqual(
@@ -187,8 +187,8 @@ class Causes(Compared):
                     ("r", "y", "gained", 1, "unknown", [(8, 7)])])
 
     def test_a_list_is_set_while_the_client_is_away(self):
-        """Then nothing is told of the right from other lines; equal messages of which a part
-        waited can't be told apart."""
+        """Then nothing is shown of the right from other lines; equal messages of which a part
+        waited can't be kept apart."""
         allow = {"do": "acl", "text": ALL}
         script = [*AWAY, publish("p", qos=1), allow, publish("p", qos=1), BACK]
         self.assertEqual(

@@ -152,12 +152,12 @@ class Said(unittest.TestCase):
 
     def test_the_tool(self):
         for words in (["script"], ["-"], []):
-            told = "".join("{0}:%s\n" % text
-                           for text in ('4: stat has no field "x"', '4: stat has no field "y"',
-                                        '5: there is no command "ä"'))
+            shown = "".join("{0}:%s\n" % text
+                            for text in ('4: stat has no field "x"', '4: stat has no field "y"',
+                                         '5: there is no command "ä"'))
             self.assertEqual(self.run_tool(
                 b'{"do":"stat"}\n\n \r\n{"do":"stat","x":1,"y":1}\n{"do":"\xc3\xa4"}', *words),
-                             (1, told.format(named((*words, "-")[0]))))
+                             (1, shown.format(named((*words, "-")[0]))))
         self.assertEqual(self.run_tool(b'{"do":"stat"}\n', "script"), (0, ""))
         self.assertEqual(
             self.run_tool(b"", "nowhere"), (2, "check: nowhere: No such file or directory\n"))

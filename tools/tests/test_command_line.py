@@ -20,7 +20,7 @@ def said(words: list[str | Path]) -> subprocess.CompletedProcess:
 
 
 def help_behind_name(words: list[str | Path], name: str) -> str:
-    """What --help tells, from behind the name on. Where its lines break depends on that."""
+    """What --help shows, from behind the name on. Where its lines break depends on that."""
     done = said([*words, "--help"])
     assert (done.returncode, done.stderr) == (0, ""), done
     head, rest = f"usage: {name} ", done.stdout
@@ -49,19 +49,20 @@ class Names(unittest.TestCase):
         self.assertEqual(said([HERE / "tools.py", "--help"]).stdout, done.stdout)
 
     def test_no_such_subcommand(self):
-        for words, told in ((["fly"], "invalid choice: 'fly'"), ([], "required: SUBCOMMAND\n"),
-                            (["--fly", "check"], "unrecognized arguments: --fly")):
+        for words, shown in ((["fly"], "invalid choice: 'fly'"), ([], "required: SUBCOMMAND\n"),
+                             (["--fly", "check"], "unrecognized arguments: --fly")):
             done = said([*ALL, *words])
             self.assertEqual((done.returncode, done.stdout), (2, ""))
-            self.assertIn(told, done.stderr)
+            self.assertIn(shown, done.stderr)
 
-    def test_what_it_tells(self):
-        for words, told in ((["check", "/nowhere"], "check: /nowhere: No such file or directory\n"),
-                            (["who-loses", "-", "-", "x"],
-                             "who-loses: error: standard input can be read once\n")):
+    def test_what_it_says(self):
+        nowhere = "check: /nowhere: No such file or directory\n"
+        for words, shown in ((["check", "/nowhere"], nowhere),
+                             (["who-loses", "-", "-", "x"],
+                              "who-loses: error: standard input can be read once\n")):
             done = said([*ALL, *words])
             self.assertEqual(done.returncode, 2)
-            self.assertTrue(done.stderr.endswith(f"mqroute-tools {told}"), done.stderr)
+            self.assertTrue(done.stderr.endswith(f"mqroute-tools {shown}"), done.stderr)
 
 
 if __name__ == "__main__":

@@ -90,8 +90,8 @@ class OfALog(unittest.TestCase):
             self.assertEqual((found[0], found[1].split(":")[0]), (1, kind))
 
     def test_own_will(self):
-        """Of a session that is kept: the broker's copy comes when the client returns. So it is told
-        once, and of that client and topic alone."""
+        """Of a session that is kept: the broker's copy comes when the client returns. So it is
+        shown once, and of that client and topic alone."""
         def coming(present: int) -> str:
             return ("New client connected from 1.2.3.4:5 as m (p2, c0, k60).\n"
                     "Will message specified (2 bytes) (r0, q1).\n\tx\n"
@@ -140,8 +140,8 @@ class OfALog(unittest.TestCase):
                        self.OUTPUT.replace('1,"reason":0', '1,"reason":16'), "no\n",
                        self.OUTPUT.replace('{"line":2,"reason":0}',
                                            '{"code":11,"line":2,"refused":"NotAuthorized"}')):
-            status, out, told = self.compared([CONNECTS + PUBLISH], output)
-            self.assertEqual((status, out, len(told.splitlines())), (2, "", 1), output)
+            status, out, shown = self.compared([CONNECTS + PUBLISH], output)
+            self.assertEqual((status, out, len(shown.splitlines())), (2, "", 1), output)
 
     def test_memory(self):
         """Nothing is kept of what is compared."""

@@ -1,4 +1,4 @@
-"""The fields of each command are told in four places; each is as the table that check.py goes by,
+"""The fields of each command are shown in four places; each is as the table that check.py goes by,
 which test_schemas.py tries on the program."""
 import re
 import unittest
@@ -18,7 +18,7 @@ def rows(text: str, head: str) -> list[list[str]]:
             for row in table if row.startswith("|") and not row.startswith("|---")]
 
 
-def told(kind: str, absent: str) -> Field:
+def shown(kind: str, absent: str) -> Field:
     if kind in ("text", "true or false"):
         return Field("text" if kind == "text" else "flag", absent == "`BadField`")
     low, high = (int(number.replace(",", "")) for number in kind.split(" to "))
@@ -34,7 +34,7 @@ class Fields(unittest.TestCase):
         for do, fields, kind, absent in rows(
                 text, "| `do` | Field | Kind and range | If absent |\n"):
             command = found.setdefault(NAME.findall(do)[0], {}) if do else command
-            command.update({name: told(kind, absent) for name in NAME.findall(fields)})
+            command.update({name: shown(kind, absent) for name in NAME.findall(fields)})
         self.assertEqual(found, COMMANDS)
 
     def test_reference(self):

@@ -217,7 +217,7 @@ class Order(Case):
 
 class Places(Case):
     def test_lines_of_several_logs(self):
-        """What isn't known is told with its file and line there."""
+        """What isn't known is shown with its file and line there."""
         self.write("one", LOG.format(1795358535, 1795358536))
         self.write("two", LOG.format(1795358537, 1795358538) + "1795358539: Something odd\n")
         done = self.run_tool("log_to_script", "one", "two")

@@ -100,8 +100,8 @@ class Others(unittest.TestCase):
         found = [line.partition(": line ")[0] for line in found]
         self.assertEqual(found, ["the broker's own topics"] * len(found))
         self.assertGreater(len(found), 0)
-        told = log("held").replace("$SYS/broker/uptime", "SYS/broker/uptime")
-        self.assertEqual(kinds(told, HeldBack.HELD).count("different"), 2)
+        shown = log("held").replace("$SYS/broker/uptime", "SYS/broker/uptime")
+        self.assertEqual(kinds(shown, HeldBack.HELD).count("different"), 2)
 
     def test_another_user_name_at_the_return(self):
         waits = [copy("a", "secret/1", 2), copy("a", "public/1", 3)]
@@ -186,7 +186,7 @@ class FromLogToLog(unittest.TestCase):
 
     def test_a_session_that_goes_on(self):
         """One client is connected at the end of the first log, and one has left. The second log
-        tells that both sessions were kept."""
+        shows that both sessions were kept."""
         first, second = self.halves("Received PUBLISH from p (d0, q0, r0, m0, 'f/1/t'")
         commands = self.check(second, self.state_of(first), "f/+/t", "g/#")
         came = [c.get("clean") for c in commands if c["do"] == "connect"]
@@ -194,7 +194,7 @@ class FromLogToLog(unittest.TestCase):
         begun = [c for c in commands if c["do"] == "connect" and c["client"] != "p"][:2]
         self.assertEqual([c["session_expiry"] for c in begun], [4294967295] * 2)
 
-    def test_sessions_that_the_next_log_does_not_tell_of(self):
+    def test_sessions_that_the_next_log_does_not_show(self):
         first, second = self.halves("Received PUBLISH from p (d0, q0, r0, m0, 'f/1/t'")
         quiet = second[:second.index("Client stays closed")]
         state = self.state_of(first)

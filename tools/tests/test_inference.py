@@ -180,7 +180,7 @@ class Sessions(Case):
         self.assertEqual(written(text)[1].notes.examples[
             "of them have no user name in the log, and so none in the script"], ["p"])
 
-    def test_expiry_that_the_next_connack_tells(self):
+    def test_expiry_that_the_next_connack_shows(self):
         def expiries(text: str, **options) -> tuple[list, int]:
             commands, found = written(text, **options)
             found_of = [c.get("session_expiry", 0) for c in commands if c["do"] == "connect"]
@@ -259,19 +259,19 @@ class Told(unittest.TestCase):
         return done.returncode, done.stdout, done.stderr
 
     def test_the_tool(self):
-        status, out, told = self.run_tool()
+        status, out, shown = self.run_tool()
         self.assertIn("the broker sent 3 copies: the script explains 1 by subscriptions in the log "
-                      "and 1 by inferred ones, and doesn't explain 1\n", told)
+                      "and 1 by inferred ones, and doesn't explain 1\n", shown)
         self.assertEqual((status, '"filter":"x"' in out), (1, True))
-        status, out, told = self.run_tool("--no-inference")
+        status, out, shown = self.run_tool("--no-inference")
         self.assertEqual((status, '"filter":"x"' in out), (1, False))
         self.assertIn("explains 1 by subscriptions in the log and 0 by inferred ones, and doesn't "
-                      "explain 2\n", told)
+                      "explain 2\n", shown)
 
     def test_nothing_is_told_of_a_whole_log(self):
-        status, _, told = self.run_tool(
+        status, _, shown = self.run_tool(
             log=arrival("p") + arrival("b") + subscribing("b", ("x", 0)) + routed("x", "b"))
-        self.assertEqual((status, len(told.splitlines())), (0, 1))
+        self.assertEqual((status, len(shown.splitlines())), (0, 1))
 
     @wants_program
     def test_half_of_a_recorded_log(self):
@@ -281,11 +281,11 @@ class Told(unittest.TestCase):
             True)
         with tempfile.TemporaryDirectory() as folder:
             Path(folder, "log").write_text("".join(lines[len(lines) // 2:]), encoding="utf-8")
-            _, script, told = self.run_tool(f"{folder}/log")
+            _, script, shown = self.run_tool(f"{folder}/log")
             self.assertIn("the broker sent 454 copies: the script explains 359 by subscriptions in "
-                          "the log and 95 by inferred ones, and doesn't explain 0\n", told)
-            self.assertIn(
-                "1 of them has no user name in the log, and so none in the script\n    ops\n", told)
+                          "the log and 95 by inferred ones, and doesn't explain 0\n", shown)
+            named = "1 of them has no user name in the log, and so none in the script\n    ops\n"
+            self.assertIn(named, shown)
             script = script.replace(
                 '"connect","client":"ops"}', '"connect","client":"ops","user":"ops"}')
             output = subprocess.run(

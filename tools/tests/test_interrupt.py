@@ -35,7 +35,7 @@ def started(tool: str, words: list[str], python: str = sys.executable, **more) -
 
 
 def waits(running: subprocess.Popen) -> bool:
-    """Whether it sleeps in a read of its standard input, as Linux tells it."""
+    """Whether it sleeps in a read of its standard input, as Linux shows it."""
     return Path(f"/proc/{running.pid}/syscall").read_text().startswith("0 0x0 ")
 
 
@@ -93,12 +93,12 @@ class Searching(unittest.TestCase):
         one.all_of = stopped
         options = argparse.Namespace(save=None, seed=1, only=None, scripts=None, json=False)
         with (contextlib.redirect_stdout(io.StringIO()) as out,
-              contextlib.redirect_stderr(io.StringIO()) as told,
+              contextlib.redirect_stderr(io.StringIO()) as shown,
               self.assertRaises(KeyboardInterrupt)):
             searched(one, Use(), [], options)
         heads = [line for line in out.getvalue().splitlines() if line.startswith("find ")]
         self.assertGreater(len(heads), 0)
-        lines = [line.partition(": ")[2] for line in told.getvalue().splitlines()]
+        lines = [line.partition(": ")[2] for line in shown.getvalue().splitlines()]
         self.assertEqual(lines[:-1], heads)
         self.assertRegex(lines[-1], rf"^29 scripts of seed 1, \d+ runs in \d+ s; {len(heads)} new "
                          r"kinds? of differences; \d+ not seen again$")
@@ -117,9 +117,9 @@ class Replaying(OnABroker):
         first = running.stdout.readline()
         time.sleep(0.3)  # so that it has come to the line that waits
         running.send_signal(signal.SIGINT)
-        _, told = running.communicate(timeout=PATIENCE)
+        _, shown = running.communicate(timeout=PATIENCE)
         said = "replay: at line 4 of 5: 1 line differs so far\nreplay: stopped\n"
-        self.assertEqual((running.returncode, told), (130, said))
+        self.assertEqual((running.returncode, shown), (130, said))
         self.assertTrue(first.startswith("line 3: "), first)
 
 

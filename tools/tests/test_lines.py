@@ -102,10 +102,10 @@ class Bridges(unittest.TestCase):
 
 class Told(unittest.TestCase):
     def one(self, text: str, *words: str) -> None:
-        told = notes(TCP + arrival("a") + text)
-        self.assertEqual(len(told), 1, told)
+        shown = notes(TCP + arrival("a") + text)
+        self.assertEqual(len(shown), 1, shown)
         for word in words:
-            self.assertIn(word, told[0])
+            self.assertIn(word, shown[0])
 
     def test_what_concerns_the_script(self):
         self.one("Reloading config.\n", "the access list may have changed here")
@@ -135,11 +135,11 @@ class Told(unittest.TestCase):
 
     def test_without_connection_messages(self):
         quiet = "Sending CONNACK to a (0, 0)\n"
-        found, told = convert(quiet + published("a", "x") + "Received DISCONNECT from a\n"
-                              + quiet.replace("(0", "(1"))
+        found, shown = convert(quiet + published("a", "x") + "Received DISCONNECT from a\n"
+                               + quiet.replace("(0", "(1"))
         self.assertEqual([c["do"] for c in found], ["connect", "publish", "disconnect", "connect"])
-        self.assertIn("connection_messages is false", next(iter(told)))
-        self.assertFalse([t for t in told if "before the log began" in t])
+        self.assertIn("connection_messages is false", next(iter(shown)))
+        self.assertFalse([t for t in shown if "before the log began" in t])
 
 
 class Beginnings(unittest.TestCase):
@@ -152,8 +152,8 @@ class Beginnings(unittest.TestCase):
 
     def test_a_first_line_that_is_cut(self):
         for stamp in ("1795358535: ", "2026-11-22T23:59:58: "):
-            found, told = convert("535: 'x', ... (2 bytes))\n" + self.stamped(stamp))
-            self.assertEqual((found, sum(told.values())), (self.WANTED, 1))
+            found, shown = convert("535: 'x', ... (2 bytes))\n" + self.stamped(stamp))
+            self.assertEqual((found, sum(shown.values())), (self.WANTED, 1))
         self.assertEqual(
             only("mosquitto[1]: nothing\n" + self.stamped("Nov 24 18:40:00 host mosquitto[123]: ")),
             self.WANTED)

@@ -310,7 +310,7 @@ class Hostile(Case):
         self.gives(arrival(longer) + published(longer, "y"),
                    [{"do": "connect", "client": longer},
                     {"do": "publish", "client": longer, "topic": "y", "payload": "2 bytes"}])
-        # nothing in the log tells which it was
+        # nothing in the log shows which it was
         self.gives(arrival("a") + arrival(longer) + published(longer, "y"),
                    [{"do": "connect", "client": longer},
                     {"do": "publish", "client": "a", "topic": "x (d0, q0, r0, m0, 'y",

@@ -70,7 +70,7 @@ class Reading(HTMLParser):
 
 class Pages(unittest.TestCase):
     def made(self, folder: str, script: str, before: str, after: str, *words: str) -> dict:
-        """Writes the page and gives what --json tells."""
+        """Writes the page and gives what --json shows."""
         for name, acl in (("before", before), ("after", after)):
             Path(folder, f"{name}.acl").write_text(acl, encoding="utf-8")
             done = subprocess.run([PROGRAM, "--acl-file", f"{name}.acl"], input=script.encode(),

@@ -116,7 +116,7 @@ class Pages(unittest.TestCase):
                 self.assertEqual(ours, sorted(ours))
 
 
-# The programs, each with the source of the texts that it tells on standard error.
+# The programs, each with the source of the texts that it shows on standard error.
 TOLD = {"mqroute": "mq_cli/src/failure.rt", "mqroute-acl": "mq_acl_answers/src/failure.rt"}
 
 
@@ -131,25 +131,25 @@ def diagnostics(program: str) -> list[str]:
             if joined.match(line) else re.sub(r"^\.[BI] ", "", line) for line in text.split("\n")]
 
 
-def pattern(told: str) -> str:
+def pattern(shown: str) -> str:
     """A text of the source, with any word or quoted word where a value is put in."""
-    return r'"?\w+"?'.join(map(re.escape, re.split(r"\{[^}]*\}", told)))
+    return r'"?\w+"?'.join(map(re.escape, re.split(r"\{[^}]*\}", shown)))
 
 
 class Diagnostics(unittest.TestCase):
     def test_each_text_is_explained(self):
         for program, source in TOLD.items():
-            told = re.findall(
+            shown = re.findall(
                 r'#\[error\("(.*?)"(?:, .*)?\)\]', (TOP / "crates" / source).read_text("utf-8"))
             lines = diagnostics(program)
-            self.assertGreater(len(told), 8)
-            for text in told:
+            self.assertGreater(len(shown), 8)
+            for text in shown:
                 with self.subTest(program, text=text):
                     self.assertTrue(
                         any(re.match(pattern(text) + r"[.;]?$", line) for line in lines))
             for line in (line for head, line in zip(lines, lines[1:]) if head == ".TP"):
                 with self.subTest(program, line=line):
-                    self.assertTrue(any(re.fullmatch(pattern(text), line) for text in told))
+                    self.assertTrue(any(re.fullmatch(pattern(text), line) for text in shown))
 
     def test_each_note_is_explained(self):
         """What mqroute-acl notes beside an answer, without what is put in."""

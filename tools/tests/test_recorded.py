@@ -52,7 +52,7 @@ class Recorded(unittest.TestCase):
         self.convert("plain")
         self.convert("sessions", *SESSIONS)
         for kind in ("mixed", "trixie"):
-            self.convert(kind, wanted=1)  # it tells of MQTT 5 sessions that may have been kept
+            self.convert(kind, wanted=1)  # it shows of MQTT 5 sessions that may have been kept
 
     @wants_program
     def test_plain(self):

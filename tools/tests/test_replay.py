@@ -93,9 +93,9 @@ class Runs(OnABroker):
                 [{"line": 1, "reason": 0}, self.GOT | {"topic": "y"}, {"line": 3, "reason": 0}],
                 ["no"]):
             # there is no broker: it isn't asked
-            status, out, told = self.run_script(script, output)
-            self.assertEqual((status, out, len(told.splitlines())), (2, "", 1), output)
-            self.assertNotIn("refused", told)
+            status, out, listed = self.run_script(script, output)
+            self.assertEqual((status, out, len(listed.splitlines())), (2, "", 1), output)
+            self.assertNotIn("refused", listed)
 
     def test_what_is_sent(self):
         self.start()
@@ -120,14 +120,14 @@ class Runs(OnABroker):
 
     def test_a_wait_of_more_than_a_day(self):
         script = [{"do": "advance", "seconds": 86_401}]
-        status, out, told = self.run_script(script, self.done(0))
+        status, out, listed = self.run_script(script, self.done(0))
         said = "advance waits in real time, and 86401 seconds are over a day"
-        self.assertEqual((status, out, told), (2, "", f"replay: script:1: {said}\n"))
+        self.assertEqual((status, out, listed), (2, "", f"replay: script:1: {said}\n"))
 
     def test_no_broker(self):
-        status, out, told = self.run_script([self.CONNECT], self.done(0))
+        status, out, listed = self.run_script([self.CONNECT], self.done(0))
         said = f"the broker at 127.0.0.1 port {self.port}: Connection refused"
-        self.assertEqual((status, out, told), (2, "", f"replay: script:1: {said}\n"))
+        self.assertEqual((status, out, listed), (2, "", f"replay: script:1: {said}\n"))
 
     def test_a_script_without_a_command(self):
         found = self.run_script(["no json"], ['{"code":2,"line":1,"refused":"BadJson"}'])
@@ -232,10 +232,10 @@ class Runs(OnABroker):
             lines = [b'{"do":"subscribe","client":"a","filter":"$share/g/x"}\\n', b"\\n",
                      b'{"do":"subscribe","client":"a","filter":"x","id":1}\\n',
                      b'{"do":"unsubscribe","client":"a","filter":"x/+"}\\n', b'{"do":"stat"}\\n']
-            fitted, told = fitted_script(lines, {1, 3, 4}, poor)
+            fitted, listed = fitted_script(lines, {1, 3, 4}, poor)
             without = b'{"do": "subscribe", "client": "a", "filter": "x"}\\n'
             assert fitted == [b"\\n", b"\\n", without, b"\\n", lines[4]], fitted
-            assert sorted(told.values()) == [1, 1, 1], told
+            assert sorted(listed.values()) == [1, 1, 1], listed
             assert fitted_script(lines, {1, 3, 4}, Offer()) == (lines, {})
             for command, wanted in (({"filter": "$share/g/x"}, "shared subscriptions"),
                                     ({"filter": "x/+"}, "wildcards in filters"),
@@ -268,9 +268,10 @@ class Runs(OnABroker):
                   self.PUBLISH | {"retain": True}, self.PUBLISH]
         output = [*self.done(0, 1), self.GOT, {"line": 3, "reason": 0}, self.GOT | {"line": 4},
                   {"line": 4, "reason": 0}, self.GOT | {"line": 5}, {"line": 5, "reason": 0}]
-        told = ("replay: the broker doesn't offer QoS over 1: 1 line sent with QoS 1\n"
-                "replay: the broker doesn't offer retained messages: 1 line sent without RETAIN\n")
-        self.assertEqual(self.run_script(script, output), (0, "", told))
+        listed = (
+            "replay: the broker doesn't offer QoS over 1: 1 line sent with QoS 1\n"
+            "replay: the broker doesn't offer retained messages: 1 line sent without RETAIN\n")
+        self.assertEqual(self.run_script(script, output), (0, "", listed))
 
     @wants_program
     def test_what_follows_from_it(self):
@@ -289,17 +290,17 @@ class Runs(OnABroker):
             [PROGRAM, "--acl-file", acl], input=text, capture_output=True, text=True)
         output = done.stdout.splitlines()
         self.assertEqual(sum('"retain":true' in line for line in output), 1)
-        status, out, told = self.run_script(script, output, "--acl-file", "acl")
-        self.assertEqual((status, out), (0, ""), told)
-        status, out, told = self.run_script(script, output)
-        self.assertEqual((status, out, "--acl-file" in told), (2, "", True))
+        status, out, listed = self.run_script(script, output, "--acl-file", "acl")
+        self.assertEqual((status, out), (0, ""), listed)
+        status, out, listed = self.run_script(script, output)
+        self.assertEqual((status, out, "--acl-file" in listed), (2, "", True))
 
     def test_topics_of_the_broker(self):
         self.start("sys_interval 1\n", access="topic read $SYS/#\n")
         script = [self.CONNECT, self.SUBSCRIBE | {"filter": "$SYS/broker/version"}]
-        told = ("replay: 1 copy of topics under $SYS/, which the broker publishes itself, are left "
-                "out\n")
-        self.assertEqual(self.run_script(script, self.done(0, 1)), (0, "", told))
+        listed = ("replay: 1 copy of topics under $SYS/, which the broker publishes itself, "
+                  "are left out\n")
+        self.assertEqual(self.run_script(script, self.done(0, 1)), (0, "", listed))
 
 
 if __name__ == "__main__":

@@ -143,15 +143,15 @@ class OnMosquitto(OnABroker):
 
     def test_on_one_broker(self):
         self.start(access="pattern readwrite #\n")
-        status, out, told = self.run_all()
-        self.assertEqual(status, 1, told)
+        status, out, shown = self.run_all()
+        self.assertEqual(status, 1, shown)
         self.assertTrue(out.startswith("own/wrong: Own ones. (3.8.3.1)\nline 3: "), out)
         self.assertEqual(out.splitlines()[-4:], [
             "section  cases  agrees  free  known  differs  left out",
             "Own          2       1     0      0        1         0",
             "Rest         2       0     1      0        0         1",
             "all          4       1     1      0        1         1"])
-        self.assertEqual(told,
+        self.assertEqual(shown,
                          "replay: 1 case left out: it has an access list: give --on-acl\n")
 
     def test_what_is_known(self):
@@ -165,9 +165,9 @@ class OnMosquitto(OnABroker):
                          (0, ["all", "4", "1", "1", "1", "0", "1"]))
         file = Path(self.known, "own/wrong.diff")
         file.write_text(file.read_text().replace("true", "false"))
-        status, _, told = self.run_all("--known", self.known)
+        status, _, shown = self.run_all("--known", self.known)
         self.assertEqual(status, 1)
-        self.assertIn("own/wrong: known, and no longer seen as stored, at line 3\n", told)
+        self.assertIn("own/wrong: known, and no longer seen as stored, at line 3\n", shown)
 
     def test_formats(self):
         self.start()
@@ -190,12 +190,12 @@ class OnMosquitto(OnABroker):
         conf.write_text(f"listener {self.port} 127.0.0.1\nallow_anonymous true\n"
                         f"user {subprocess.getoutput('id -un')}\n")
         command = f"exec {mosquitto.MOSQUITTO} -c {conf}"
-        status, out, told = self.run_all("--start", command)
+        status, out, shown = self.run_all("--start", command)
         self.assertEqual((status, out.splitlines()[-1].split()),
-                         (1, ["all", "4", "1", "1", "0", "1", "1"]), told)
-        status, _, told = self.run_all("--start", "echo no broker; exit 3")
-        self.assertEqual((status, told), (2, "replay: the command of --start: it ended with status "
-                                          "3; no broker\n"))
+                         (1, ["all", "4", "1", "1", "0", "1", "1"]), shown)
+        status, _, shown = self.run_all("--start", "echo no broker; exit 3")
+        self.assertEqual((status, shown), (
+            2, "replay: the command of --start: it ended with status 3; no broker\n"))
 
     def test_usage(self):
         for words, said in ((["--all", "x", "script"], "--all goes without SCRIPT"),

@@ -68,7 +68,7 @@ class Schemas(unittest.TestCase):
     def test_worked_scripts(self):
         """A line is valid exactly where the program doesn't refuse it as no
         command; each answer is valid."""
-        commands = faulty = told = 0
+        commands = faulty = shown = 0
         for name, script in scripts():
             found = answers(script)
             refused = invalid_lines(found)
@@ -79,8 +79,8 @@ class Schemas(unittest.TestCase):
                     commands, faulty = commands + 1, faulty + (number in refused)
             for answer in found:
                 self.assertTrue(is_valid(answer, ANSWER), f"{name}: {answer}")
-            told += len(found)
-        self.assertTrue(commands > 1000 and faulty > 5 and told > 2000, (commands, faulty, told))
+            shown += len(found)
+        self.assertTrue(commands > 1000 and faulty > 5 and shown > 2000, (commands, faulty, shown))
 
     def test_what_is_no_answer(self):
         copy = {"client": "a", "line": 1, "payload": "", "qos": 0, "retain": False, "topic": "x"}
@@ -97,7 +97,7 @@ class Schemas(unittest.TestCase):
             self.assertFalse(is_valid(answer, ANSWER), answer)
 
     def test_the_table_of_check(self):
-        """The schema's commands and fields are those that check.py tells of."""
+        """The schema's commands and fields are those that check.py shows of."""
         found = {}
         for one in COMMAND["oneOf"]:
             fields = {name: field(name, schema, one["required"])

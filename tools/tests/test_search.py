@@ -83,7 +83,7 @@ class Finds(unittest.TestCase):
         self.assertEqual(searched(Fake(lambda script: script), 60)[1], [])
 
     def test_a_find_stands_on_its_own(self):
-        """Its answers are mqroute's to its script, and what is told is of its own names."""
+        """Its answers are mqroute's to its script, and what is shown is of its own names."""
         find = self.first(expiry_0_is_none, 200)
         script = "".join(line + "\n" for line in find.lines())
         done = subprocess.run([PROGRAM], input=script, capture_output=True, text=True)
@@ -284,9 +284,9 @@ class Live(unittest.TestCase):
     def test_the_tool(self):
         port = str(self.start())
         plain = "groups,retained,sessions,expiry,options,dollar,identifiers"
-        status, out, told = self.run_tool("--port", port, "--scripts", "20", "--without", plain)
-        self.assertEqual((status, out), (0, ""), told)
-        self.assertRegex(told, r"search: exercised: \d+ of 20 scripts: .*\n"
+        status, out, shown = self.run_tool("--port", port, "--scripts", "20", "--without", plain)
+        self.assertEqual((status, out), (0, ""), shown)
+        self.assertRegex(shown, r"search: exercised: \d+ of 20 scripts: .*\n"
                          r"search: 20 scripts of seed 1, 20 runs in \d+ s; 0 new kinds")
 
     def test_access_lists_by_the_rules_of_mosquitto(self):
@@ -297,37 +297,37 @@ class Live(unittest.TestCase):
             on_acl = f'cp "$MQROUTE_ACL" {acl} && kill -HUP {self.broker}'
             words = ["--port", port, "--scripts", "3", "--seed", "2", "--on-acl", on_acl,
                      "--without", "groups,retained,sessions,expiry,options,identifiers,wills"]
-            status, out, told = self.run_tool(*words, "--rules", "mosquitto")
-            self.assertEqual((status, out), (0, ""), told)
-            self.assertIn("a publish denied", told)
+            status, out, shown = self.run_tool(*words, "--rules", "mosquitto")
+            self.assertEqual((status, out), (0, ""), shown)
+            self.assertIn("a publish denied", shown)
 
     def test_repeatable(self):
         """A find has the number of its script, which finds it again; saved, it is known."""
         port, plain = str(self.start()), "groups,retained,sessions,expiry,wills,dollar"
         words = ["--port", port, "--scripts", "10", "--without", plain]
         with tempfile.TemporaryDirectory() as folder:
-            status, out, told = self.run_tool(
+            status, out, shown = self.run_tool(
                 *words, "--json", "--junit", f"{folder}/xml", "--save", folder)
             *finds, sums = map(json.loads, out.splitlines())
-            self.assertEqual((status, sums["finds"]), (1, len(finds)), told)
+            self.assertEqual((status, sums["finds"]), (1, len(finds)), shown)
             self.assertIn("subscribes again", finds[0]["uses"])
             self.assertEqual((sums["scripts"], sums["time_is_up"]), (10, False))
             self.assertEqual(Path(folder, "xml").read_text().count("<failure "), len(finds))
-            status, out, told = self.run_tool(*words, "--only", str(finds[0]["number"]))
-            self.assertEqual(status, 1, told)
+            status, out, shown = self.run_tool(*words, "--only", str(finds[0]["number"]))
+            self.assertEqual(status, 1, shown)
             self.assertTrue(out.startswith(f"find 1: {finds[0]['what']}; seed 1, script "), out)
-            status, out, told = self.run_tool(*words, "--known", folder)
-            self.assertEqual((status, out), (0, ""), told)
-            self.assertEqual(told.count("jsonl: seen, and in "), len(finds))
+            status, out, shown = self.run_tool(*words, "--known", folder)
+            self.assertEqual((status, out), (0, ""), shown)
+            self.assertEqual(shown.count("jsonl: seen, and in "), len(finds))
 
     def test_one_that_it_begins(self):
         with tempfile.TemporaryDirectory() as folder:
             port, conf = mosquitto.free_port(), Path(folder, "conf")
             conf.write_text(f"listener {port} 127.0.0.1\nallow_anonymous true\nlog_dest none\n")
-            status, _, told = self.run_tool(
+            status, _, shown = self.run_tool(
                 "--port", str(port), "--start", f"exec {mosquitto.MOSQUITTO} -c {conf}",
                 "--scripts", "2", "--without", "qos,groups,retained,options,expiry,dollar")
-            self.assertEqual(status, 0, told)
+            self.assertEqual(status, 0, shown)
 
     def test_a_broker_that_holds_something(self):
         port = str(self.start())
@@ -340,8 +340,8 @@ class Live(unittest.TestCase):
                         "qos": 1, "retain": True}})
         """
         subprocess.run([PAHO, "-c", code], cwd=HERE, check=True)
-        _, _, told = self.run_tool("--port", port, "--minutes", "0", "--scripts", "1")
-        held, *_, end = told.splitlines()
+        _, _, shown = self.run_tool("--port", port, "--minutes", "0", "--scripts", "1")
+        held, *_, end = shown.splitlines()
         self.assertEqual(held, "search: the broker isn't empty: it retains held/x: what is found "
                          "may be of these")
         self.assertEqual(end, "search: no script was run to its end: the time was up")
@@ -349,9 +349,9 @@ class Live(unittest.TestCase):
     def test_faults(self):
         for words, said in ((("--port", "1"), "no broker at 127.0.0.1 port 1"),
                             (("--without", "groups,testaments"), "'testaments' is none of")):
-            status, _, told = self.run_tool(*words)
-            self.assertEqual(status, 2, told)
-            self.assertIn(said, told)
+            status, _, shown = self.run_tool(*words)
+            self.assertEqual(status, 2, shown)
+            self.assertIn(said, shown)
 
 
 def as_lines(script: list) -> str:

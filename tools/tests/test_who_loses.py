@@ -78,7 +78,7 @@ In all 4 copies before and 3 after: 2 lost, 1 gained, 1 changed. 0 lines refused
                                              "newly": {"NotAuthorized": 1}, "no_longer": {}}])
         self.assertEqual(found["totals"]["lost"], 2)
 
-    def test_lost_and_gained_elsewhere_are_both_told(self):
+    def test_lost_and_gained_elsewhere_are_both_shown(self):
         before = [copy(1, "a", "x"), accepted(1), accepted(2)]
         after = [accepted(1), copy(2, "a", "x"), accepted(2)]
         status, out, _ = self.run_tool([publish("p", "x")] * 2, before, after)
@@ -99,12 +99,12 @@ In all 4 copies before and 3 after: 2 lost, 1 gained, 1 changed. 0 lines refused
         for before, after in ((self.BEFORE, self.BEFORE[:-2]),
                               (self.BEFORE + [accepted(9)], self.BEFORE + [accepted(9)]),
                               (["no"], ["no"]), (["[]"], ["[]"])):
-            status, out, told = self.run_tool(self.SCRIPT, before, after)
+            status, out, shown = self.run_tool(self.SCRIPT, before, after)
             self.assertEqual((status, out), (2, ""))
-            self.assertTrue(told.startswith("who_loses: "), told)
+            self.assertTrue(shown.startswith("who_loses: "), shown)
 
-    def refuses(self, script: list[str], before: list[str], after: list[str], told: str) -> None:
-        self.assertEqual(self.run_tool(script, before, after), (2, "", f"who_loses: {told}\n"))
+    def refuses(self, script: list[str], before: list[str], after: list[str], shown: str) -> None:
+        self.assertEqual(self.run_tool(script, before, after), (2, "", f"who_loses: {shown}\n"))
 
     def test_lines_without_an_answer(self):
         neither = "script:{}: answered in neither output: a run failed or is cut short"
@@ -146,7 +146,7 @@ In all 4 copies before and 3 after: 2 lost, 1 gained, 1 changed. 0 lines refused
 
     def test_files_that_are_no_outputs(self):
         with tempfile.TemporaryDirectory() as folder:
-            for content, told in (
+            for content, shown in (
                     (b"\x7fELF\x02\xff\x80" * 9000, "file: no output of mqroute: it is not UTF-8"),
                     (b"\x7fELF\x02\n" * 9000, "file:1: no answer of mqroute"),
                     (publish("p", "x").encode() + b"\n",
@@ -162,7 +162,7 @@ In all 4 copies before and 3 after: 2 lost, 1 gained, 1 changed. 0 lines refused
                 done = subprocess.run([sys.executable, TOOL, "script", "file", "file"],
                                       capture_output=True, text=True, cwd=folder)
                 self.assertEqual(
-                    (done.returncode, done.stdout, done.stderr), (2, "", f"who_loses: {told}\n"))
+                    (done.returncode, done.stdout, done.stderr), (2, "", f"who_loses: {shown}\n"))
 
     @unittest.skipUnless(Path("/dev/full").exists(), "there is no /dev/full")
     def test_a_full_device(self):

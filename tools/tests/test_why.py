@@ -180,7 +180,7 @@ class Why(unittest.TestCase):
         self.assertIn(f"the nearest 1 s before ({log}:803) and 2 s after ({log}:962)", done.stderr)
 
     def test_lines_of_a_log(self):
-        """What is named are the lines that tell of it; what none tells of is said to be inferred,
+        """What is named are the lines that tell of it; what none shows is said to be inferred,
         as in a log whose beginning is missing."""
         name, topic = "plain.log", "plant/hall-2/energy"
         lines = (TOP / "brokers/recorded" / name).read_text("utf-8").split("\n")

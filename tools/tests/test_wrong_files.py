@@ -99,7 +99,7 @@ class Scripts(Case):
         self.refuses(" \n\n", "blank: no line is a command\n")
 
     def test_one_command_is_enough(self):
-        """Behind others that are none the fault is told that there is."""
+        """Behind others that are none the fault is shown that there is."""
         self.write("wrong", "no json\n" * 3 + SCRIPT)
         done = self.run_tool("who_loses", "wrong", "before", "before")
         self.refused(done, "who_loses: wrong:3: answered in neither output")

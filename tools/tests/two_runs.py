@@ -1,4 +1,4 @@
-"""Small scripts that the built program answers twice, and what who_loses tells of both answers."""
+"""Small scripts that the built program answers twice, and what who_loses shows of both answers."""
 import json
 import subprocess
 import sys

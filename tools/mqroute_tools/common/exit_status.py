@@ -4,7 +4,7 @@ import sys
 from collections.abc import Callable
 
 from . import interrupt
-from .messages import in_words, tell
+from .messages import in_words, say
 
 FAILED = 2  # 0 and 1 are each tool's own
 
@@ -34,14 +34,14 @@ def run(work: Callable[[], int]) -> int:
         sys.stdout.flush()
     except KeyboardInterrupt:
         discard_output()
-        tell("stopped")
+        say("stopped")
         return interrupt.STOPPED
     except BrokenPipeError:  # who reads standard output wants no more, as `head`
         discard_output()
         return FAILED
     except (OSError, Fault) as fault:
         discard_output()
-        tell(in_words(fault))
+        say(in_words(fault))
         return FAILED
     finally:
         interrupt.handle(interrupt.stop)

@@ -1,4 +1,4 @@
-"""What a tool tells on standard error, and how it words numbers and failures."""
+"""What a tool shows on standard error, and how it words numbers and failures."""
 import os
 import sys
 from pathlib import Path
@@ -13,7 +13,7 @@ def own_name() -> str:
     return Path(sys.argv[0]).stem
 
 
-def tell(text: str) -> None:
+def say(text: str) -> None:
     print(f"{own_name()}: {text}", file=sys.stderr)
 
 

@@ -23,7 +23,7 @@ def columns(rows: Iterable[list[str]], right: Container[int] = ()) -> list[str]:
 
 
 def shown(text: str) -> str:
-    """A client id or topic on one line of a table: control characters are told as JSON has them."""
+    """A client id or topic on one line of a table: control characters stand as JSON has them."""
     plain = text.isprintable() and text == text.strip() and text
     return text if plain else json.dumps(text, ensure_ascii=False)
 

@@ -73,5 +73,5 @@ def tap_lines(number: int, result: Result) -> list[str]:
     why = result.text.replace("\n", " ")
     note = f" # SKIP {why}" if result.outcome is Outcome.SKIPPED else ""
     name = f"{result.suite}/{result.name}".replace("#", "\\#")
-    told = [] if is_right else [f"# {line}" for line in result.text.split("\n")]
-    return [f"{'' if is_right else 'not '}ok {number} - {name}{note}", *told]
+    shown = [] if is_right else [f"# {line}" for line in result.text.split("\n")]
+    return [f"{'' if is_right else 'not '}ok {number} - {name}{note}", *shown]

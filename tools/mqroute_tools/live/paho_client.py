@@ -7,7 +7,7 @@ from collections.abc import Callable
 from typing import Any
 
 from ..common.exit_status import FAILED
-from ..common.messages import tell
+from ..common.messages import say
 
 try:
     import paho.mqtt.client as mqtt
@@ -15,7 +15,7 @@ try:
     from paho.mqtt.properties import Properties
     from paho.mqtt.subscribeoptions import SubscribeOptions
 except ImportError:
-    tell("wants the package python3-paho-mqtt")
+    say("wants the package python3-paho-mqtt")
     sys.exit(FAILED)
 
 from ..script.output import Command
@@ -35,10 +35,10 @@ SHORT_UNSUBACKS: dict[str, dict[bytes, int | None]] = {
 
 class Client(mqtt.Client):
     """Looks at each packet before paho does, which passes over some faults and fails in others;
-    tells the reasons of PUBACK, PUBREC and DISCONNECT, which not every paho does."""
+    shows the reasons of PUBACK, PUBREC and DISCONNECT, which not every paho does."""
 
     def __init__(self, name: str, options: BrokerOptions, **more: Any) -> None:
-        versions = getattr(mqtt, "CallbackAPIVersion", None)  # paho 2 wants to be told
+        versions = getattr(mqtt, "CallbackAPIVersion", None)  # paho 2 wants to know
         with warnings.catch_warnings():
             warnings.simplefilter("ignore", DeprecationWarning)
             super().__init__(

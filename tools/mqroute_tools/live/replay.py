@@ -16,7 +16,7 @@ from typing import TYPE_CHECKING
 
 from ..common.exit_status import Fault
 from ..common.files import at, keep_apart, open_input, refuse_stdin_twice
-from ..common.messages import counted, in_words, tell
+from ..common.messages import counted, in_words, say
 from ..common.option_values import whole_number
 from ..common.progress import Progress
 from ..script.commands import Seen, line_faults
@@ -69,18 +69,18 @@ def offered(replay: "Replay", options: argparse.Namespace, script: list[bytes],
             given: list[Block], lines: list[Line]) -> list[Line]:
     """The lines as this broker can run them. Where it lacks something mqroute answers anew."""
     from .script_fitting import fitted_script, read_list
-    fitted, told = fitted_script(script, {number for number, _, _ in lines}, replay.offer)
-    if not told:
+    fitted, shown = fitted_script(script, {number for number, _, _ in lines}, replay.offer)
+    if not shown:
         return lines
     acl = read_list(options.acl_file) if options.acl_file else None
     with Oracle(acl, options.max_retained, options.max_queued, rules=options.rules) as oracle:
         if answers(oracle.words, b"".join(script)) != given:
-            lacking = ", ".join(what.partition(": ")[0] for what in told)
+            lacking = ", ".join(what.partition(": ")[0] for what in shown)
             raise Fault(f"{lacking}: mqroute has to run again, and wrote {options.output} "
                         "with other options. Give its --acl-file, --rules, --max-retained and "
                         "--max-queued")
         again = answers(oracle.words, b"".join(fitted))
-    replay.remarks += told
+    replay.remarks += shown
     return list(runnable(fitted, iter(again), (options.script, "mqroute's answer")))
 
 
@@ -140,7 +140,7 @@ def compared(replay: "Replay", options: argparse.Namespace) -> int:
     except KeyboardInterrupt:
         progress.clear()
         differ = "line differs" if number == 1 else "lines differ"
-        tell(f"at line {replay.line} of {progress.of}: {number} {differ} so far")
+        say(f"at line {replay.line} of {progress.of}: {number} {differ} so far")
         raise
     finally:
         progress.clear()
@@ -198,5 +198,5 @@ def run_one(options: argparse.Namespace) -> int:
     finally:
         replay.end()
     for what, count in replay.remarks.items():
-        tell(numbered(what, count))
+        say(numbered(what, count))
     return status

@@ -5,7 +5,7 @@ from pathlib import Path
 
 from ..common.exit_status import Fault
 from ..common.files import whole
-from ..common.messages import tell
+from ..common.messages import say
 from ..common.progress import Progress
 from ..common.test_results import write_junit
 from ..script.oracle import Oracle, OracleFault
@@ -43,7 +43,7 @@ def finish(sections: list[Section], results: list[CaseResult],
     else:
         print(as_table(sections, results), flush=True)
     for note in notes(results):
-        tell(note)
+        say(note)
     if options.junit:
         write_junit(options.junit, map(as_test, results))
 
@@ -71,7 +71,7 @@ def run_all(options: argparse.Namespace) -> int:
         if results:
             finish(sections, results, options)
     if run.held:
-        tell(HELD.format(", ".join(run.held[:5])))
+        say(HELD.format(", ".join(run.held[:5])))
     return status(results)
 
 

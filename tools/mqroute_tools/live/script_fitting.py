@@ -58,18 +58,18 @@ def fitted_script(lines: Iterable[bytes], sent: set[int],
                   offer: Offer) -> tuple[list[bytes], Counter[str]]:
     """The script that the broker can run, each line under its old number; what was done, and to
     how many. `sent` are the lines that go to the broker at all: the others stay."""
-    told: Counter[str] = Counter()
+    shown: Counter[str] = Counter()
     result = []
     for number, line in enumerate(lines, 1):
         command = command_of(line) if number in sent else None
         if command is not None:
             instead, did = fitting(command, offer)
             for what, how in did:
-                told[f"{offer.without()} {what}: {{}} lines {how}"] += 1
+                shown[f"{offer.without()} {what}: {{}} lines {how}"] += 1
             if did:
                 line = b"\n" if instead is None else json.dumps(instead).encode() + b"\n"
         result.append(line)
-    return result, told
+    return result, shown
 
 
 def fitted_commands(script: Iterable[Command],

@@ -17,7 +17,7 @@ REASONS = 10_000  # of which each client's last ones are remembered
 
 
 class Inferred(dict[str, Any]):
-    """A command that no line of the log tells of by itself."""
+    """A command that no line of the log shows by itself."""
 
 
 class Session:
@@ -42,7 +42,7 @@ class Session:
         self.before = False  # older than the log
         self.asked: Command | None = None  # a will that the last DISCONNECT may have asked for
         self.expiry = 0
-        self.arrived = False  # in this log, which so tells whether it came by a websocket
+        self.arrived = False  # in this log, which so shows whether it came by a websocket
         self.unsure = False  # took over from one that didn't
         self.renamed: set[int] = set()  # of `unreleased`: received under another user name
 
@@ -139,7 +139,7 @@ class Clients:
 
     def know(self, state: State, inferred: Mapping[str, set[str]] | None = None) -> None:
         """The clients that there are before the first line; `inferred` are
-        filters that no line told."""
+        filters that no line showed."""
         for name, client in state.clients.items():
             session = Session(kept=client.expiry > 0, user=client.user)
             guessed = (inferred or {}).get(name, set())
@@ -179,7 +179,7 @@ class Clients:
         self.emit(arrival.place, command)
 
     def expiry(self, place: int, client: str, clean: bool, protocol: int) -> int:
-        """How long the session is kept after its connection. A log tells it of MQTT 3 alone."""
+        """How long the session is kept after its connection. A log shows it of MQTT 3 alone."""
         return 0 if clean else FOREVER if protocol < 5 else self.session_expiry
 
     def taken_over(self, client: str) -> None:
@@ -244,7 +244,7 @@ class Clients:
         self.ended = client
 
     def closed(self, client: str) -> None:
-        """A line tells that a connection of the client has ended: a websocket's, or its own."""
+        """A line shows that a connection of the client has ended: a websocket's, or its own."""
         if self.closing.get(client):
             self.closing[client] -= 1
             if not self.closing[client]:

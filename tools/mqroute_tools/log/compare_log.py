@@ -7,7 +7,7 @@ Exit status: 0 none differs; 1 some do; 2 usage, a file, or an output that isn't
 import argparse
 
 from ..common.files import STDIN, keep_apart, plain_file, refuse_stdin_twice
-from ..common.messages import counted, tell
+from ..common.messages import counted, say
 from .comparison import Comparison
 from .log_files import Logs
 from .options import add_log_options
@@ -44,8 +44,8 @@ def run(options: argparse.Namespace) -> int:
     for line in lines:
         print(line)
     refused = counted(found.refused, "publishes")
-    tell(f"the broker sent {counted(found.sent, 'copies')} and refused {refused}; "
-         f"{counted(len(lines), 'differences')}")
+    say(f"the broker sent {counted(found.sent, 'copies')} and refused {refused}; "
+        f"{counted(len(lines), 'differences')}")
     for kind, count in found.kinds(lines):
-        tell(f"{count} {kind}")
+        say(f"{count} {kind}")
     return 1 if lines else 0

@@ -31,7 +31,7 @@ class Connections(Converter):
             self.last[client] = arrival.place
 
     def begins_with_start(self, first: list[bytes]) -> bool:
-        """Whether the first line that is the broker's own tells of its start."""
+        """Whether the first line that is the broker's own shows of its start."""
         texts = (self.stamps.split(line.decode("utf-8", "replace"))[1] for line in first)
         text = next((text for text in texts if text), "")
         return text.startswith("mosquitto version ") and text.endswith(" starting")

@@ -24,10 +24,10 @@ class Converter(Subscribing):
         # that connected over TCP: the broker has no such line of a websocket
         self.addresses: dict[str, None] = {}
         self.sys_topics: set[str] = set()  # below $SYS/, that clients publish
-        # who sent DISCONNECT and has a will, and where the broker told the end
+        # who sent DISCONNECT and has a will, and where the broker showed the end
         self.parting: tuple[str, int] | None = None
         self.is_log = False  # whether a line of mosquitto's was read
-        self.silent = False  # the broker tells neither who connects nor whose connection ends
+        self.silent = False  # the broker shows neither who connects nor whose connection ends
         self.frequent = self.readers()
 
     # -- reading

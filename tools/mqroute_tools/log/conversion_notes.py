@@ -1,4 +1,4 @@
-"""What is told beside the script."""
+"""What is listed beside the script."""
 import re
 from collections.abc import Callable
 from typing import TextIO

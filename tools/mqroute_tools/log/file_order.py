@@ -6,7 +6,7 @@ from typing import NamedTuple
 
 from ..common.exit_status import Fault
 from ..common.files import open_input
-from ..common.messages import tell
+from ..common.messages import say
 from .mosquitto_log import raw_lines
 from .time_stamps import HALF_A_YEAR, LOOKED_AT, Stamps
 
@@ -107,5 +107,5 @@ def in_order(files: list[LogFile], form: str | None) -> list[LogFile]:
                         "give logs that follow one another")
     if ordered != dated:
         names = ", ".join(one.file.name for one in ordered)
-        tell(f"the logs are read in the order of their times: {names}")
+        say(f"the logs are read in the order of their times: {names}")
     return [one.file for one in ordered] + [file for file, one in zip(files, found) if one is None]

@@ -17,7 +17,7 @@ ALIKE = 100  # topics that are looked at for a publisher
 
 @dataclass
 class Beginning:
-    """What the script begins with, and what later lines told of earlier ones."""
+    """What the script begins with, and what later lines showed of earlier ones."""
     state: State
     # by client the filters that the log doesn't have
     inferred: dict[str, set[str]] = field(default_factory=dict)
@@ -51,7 +51,7 @@ class Observer(Converter):
         self.doubtful: dict[str, tuple[int, Session]] = {}  # ends, perhaps of an older connection
         self.begun = set(begin.clients)  # whose session is the one that the script begins with
         for session in self.connected.values():
-            session.kept = True  # where the state has no interval the next CONNACK tells
+            session.kept = True  # where the state has no interval the next CONNACK shows
 
     def emit(self, place: int, command: Command, routed: bool | None = True) -> None:
         """The script isn't written here."""

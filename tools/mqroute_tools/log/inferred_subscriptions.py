@@ -61,7 +61,7 @@ class Sent:
         # publishes whose best copy had QoS 0 or 1, and that had a greater one: the subscription's
         self.lowered = [0, 0]
         self.rap = False
-        self.open = False  # no subscription in the log tells why
+        self.open = False  # no subscription in the log shows why
 
 
 def generalised(topic: str) -> set[str]:

@@ -1,11 +1,11 @@
 """log-to-script: makes a script for mqroute of a mosquitto 2.0 log (log_type all).
 
 The commands stand in the order in which the broker did them. What a log doesn't tell (payloads,
-options, expiry) is left at its default; a payload is told as its number of bytes, and is empty
+options, expiry) is left at its default; a payload is shown as its number of bytes, and is empty
 where it was empty.
 Of clients that were connected before the log began the script begins with what their copies show
 (--no-inference: it doesn't).
-Exit status: 0 all of the log is in the script; 1 something isn't, told on standard error; 2 usage,
+Exit status: 0 all of the log is in the script; 1 something isn't, shown on standard error; 2 usage,
 or a file.
 """
 import argparse
@@ -17,7 +17,7 @@ from functools import lru_cache
 from typing import IO
 
 from ..common.files import STDIN, keep_apart, refuse_stdin_twice, whole
-from ..common.messages import counted, tell
+from ..common.messages import counted, say
 from ..script.output import Command
 from .clients import INFERRED, NONE, SEEN
 from .conversion import placed_commands
@@ -50,12 +50,12 @@ def write_script(options: argparse.Namespace, logs: Logs, out: IO[bytes],
 
 def sum_up(found: Writer, logs: Logs, written: int) -> None:
     others = f" ({found.stamps.others} of other programs)" if found.stamps.others else ""
-    tell(f"{counted(found.place, 'lines read')}{others}, {counted(written, 'commands written')}")
+    say(f"{counted(found.place, 'lines read')}{others}, {counted(written, 'commands written')}")
     if found.explained[INFERRED] or found.explained[NONE]:
         seen, inferred, none = (found.explained[i] for i in (SEEN, INFERRED, NONE))
         copies = counted(seen + inferred + none, "copies")
-        tell(f"the broker sent {copies}: the script explains {seen} by subscriptions in "
-             f"the log and {inferred} by inferred ones, and doesn't explain {none}")
+        say(f"the broker sent {copies}: the script explains {seen} by subscriptions in "
+            f"the log and {inferred} by inferred ones, and doesn't explain {none}")
     found.notes.write(sys.stderr, logs.where)
 
 

@@ -101,7 +101,7 @@ TAKEN_OVER = re.compile(r"Client (.*) already connected, closing old connection\
 
 
 class Publish(NamedTuple):
-    """What a line tells of a PUBLISH packet, received, denied or sent."""
+    """What a line shows of a PUBLISH packet, received, denied or sent."""
     client: str
     dup: int
     qos: int

@@ -20,7 +20,7 @@ def add_log_options(parser: argparse.ArgumentParser) -> None:
                         "found without)")
     parser.add_argument("--session-expiry", metavar="SECONDS", type=whole_number(0, FOREVER),
                         help="Session Expiry Interval of MQTT 5 clients that connect without Clean "
-                        "Start; without it the next CONNACK tells")
+                        "Start; without it the next CONNACK shows")
     parser.add_argument("--no-inference", action="store_true",
                         help="nothing of before the log but what --begin has")
     parser.add_argument("--begin", metavar="FILE",

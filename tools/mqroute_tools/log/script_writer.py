@@ -39,9 +39,9 @@ class Writer(Converter):
         self.explained = [0, 0, 0]
         self.logs: Logs | None = None
         self.know(begins.state, begins.inferred)
-        self.tell_before()
+        self.say_before()
 
-    def tell_before(self) -> None:
+    def say_before(self) -> None:
         for client in self.begins.inferred:
             self.seen_before.add(client)
             self.notes.add("clients were connected before the log began: their subscriptions are "
@@ -84,7 +84,7 @@ class Writer(Converter):
         self.for_will = False
 
     def shows_older(self) -> None:
-        """A line tells of what was there before the log, or may do so."""
+        """A line shows of what was there before the log, or may do so."""
         if self.begins.fresh:
             raise Older
 
@@ -106,7 +106,7 @@ class Writer(Converter):
             raise self.logs.wrong()
 
     def expiry(self, place: int, client: str, clean: bool, protocol: int) -> int:
-        """As the next CONNACK tells it: whether the session was there."""
+        """As the next CONNACK shows it: whether the session was there."""
         self.untold = False
         if protocol < 5 or self.given:
             return super().expiry(place, client, clean, protocol)
@@ -115,7 +115,7 @@ class Writer(Converter):
         self.untold = place not in self.begins.ended
         if not clean and place not in self.begins.ended:
             self.notes.add("MQTT 5 sessions may be kept after their connection, and no later "
-                           "CONNACK tells: they are not (--session-expiry)",
+                           "CONNACK shows: they are not (--session-expiry)",
                            f"line {place}: {client}")
         return 0
 
@@ -125,7 +125,7 @@ class Writer(Converter):
 
     def taken_over(self, client: str) -> None:
         """The copies of the will, if there is to be one, stand before the line
-        that tells whether there is."""
+        that shows whether there is."""
         super().taken_over(client)
         will = self.connected[client].will
         if will:

@@ -17,7 +17,7 @@ from .steps import Copy, Event, Step
 
 
 class Watcher(Writer):
-    """Converts, and keeps what the log tells of copies sent and publishes denied."""
+    """Converts, and keeps what the log shows of copies sent and publishes denied."""
 
     def __init__(self, session_expiry: int | None, form: str | None, begins: Beginning) -> None:
         super().__init__(session_expiry, form, begins)

@@ -49,7 +49,7 @@ class Subscribing(Clients):
 
     def grant(self, qos: int | None) -> None:
         """Writes the subscribe that was asked for, with the QoS granted, or as
-        asked where no line tells it."""
+        asked where no line shows it."""
         if self.packet and self.asked and self.asked[1] >= 0:
             kind, client, place = self.packet
             qos = self.asked[1] if qos is None else qos

@@ -1,6 +1,6 @@
-"""Which lines of two access lists decide what differs, as `mqroute-acl why` tells it.
+"""Which lines of two access lists decide what differs, as `mqroute-acl why` shows it.
 
-The lists are those that were in force when the script began: nothing is told of lines after one
+The lists are those that were in force when the script began: nothing is listed of lines after one
 that sets another.
 """
 from dataclasses import dataclass

@@ -66,9 +66,9 @@ class Attribution:
     def differing(self, command: Command, blocks: tuple[Block, Block], was: Grouped,
                   now: Grouped) -> dict[Key, list[Found]]:
         """What is lost, gained and changed of each client and topic, copy by copy."""
-        told: dict[Key, list[Found]] = {}
+        shown: dict[Key, list[Found]] = {}
         refused = self.history.refusal(command, *blocks)
-        of_others = None if refused else self.teller(command, blocks)
+        of_others = None if refused else self.sayer(command, blocks)
         for key in sorted(was.keys() | now.keys()):
             old, new = was.get(key, NONE), now.get(key, NONE)
             counts = difference(old, new)
@@ -76,15 +76,15 @@ class Attribution:
                 continue
             one = Found("", refused) if refused else self.history.sessions.get(key[0])
             if one or not of_others:
-                told[key] = everything(counts, one or Found("", UNKNOWN))
+                shown[key] = everything(counts, one or Found("", UNKNOWN))
             else:
                 found = of_others(key, old, new)
                 agrees = tuple(sum(f.what == what for f in found) for what in WHAT) == counts
-                told[key] = found if agrees else everything(counts, Found("", UNKNOWN))
-        return told
+                shown[key] = found if agrees else everything(counts, Found("", UNKNOWN))
+        return shown
 
-    def teller(self, command: Command, blocks: tuple[Block, Block]) -> Teller | None:
-        """What tells the causes, where both runs accepted the line."""
+    def sayer(self, command: Command, blocks: tuple[Block, Block]) -> Teller | None:
+        """What shows the causes, where both runs accepted the line."""
         do = command.get("do")
         if do == "publish":
             shared = [groups(block.copies) for block in blocks]

@@ -193,7 +193,7 @@ def unanswered(names: list[str]) -> str:
 
 
 def findings(losses: Losses) -> Findings:
-    """All that is told."""
+    """All that is shown."""
     copies, refusals, reasons = losses.changed_copies(), losses.changed_refusals(), losses.reasons
     if not reasons:
         return Findings(None, [CopiesRow(Subject(*key), value, None) for key, value in copies], [],

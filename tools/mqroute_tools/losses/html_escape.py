@@ -8,7 +8,7 @@ from .findings import Subject
 
 def visible(text: str) -> str:
     """A client id or topic for a page. Characters that aren't seen, or that turn text round,
-    are told by their numbers."""
+    are listed by their numbers."""
     return escaped(shown(text))
 
 

@@ -38,7 +38,7 @@ class QueuedCopies:
 
     def origin(self, topic: str, left: Left) -> tuple[list[Entry], list[Entry]] | None:
         """The publishes that the copies of a topic are of, in each run; None
-        where that can't be told."""
+        where that can't be shown."""
         sent = [e for e in self.history.log.since(topic, left.line)
                 if not self.history.over(e.deadline)]
         before, after = (
@@ -59,7 +59,7 @@ class QueuedCopies:
         return max((e.line for both in self.origins.values() if both for e in both[run]), default=0)
 
     def of(self, topic: str) -> list[Found]:
-        """What differs, of one topic. Empty where it can't be told."""
+        """What differs, of one topic. Empty where it can't be shown."""
         both = self.origins.get(topic)
         if not both:
             return []

@@ -1,4 +1,4 @@
-"""who-loses: tells who loses (and who gains) what between two outputs of mqroute for one script.
+"""who-loses: shows who loses (and who gains) what between two outputs of mqroute for one script.
 
 Exit status: 0 nothing changes; 1 something does; 2 usage, a file, or outputs that aren't of this
 script.
@@ -69,7 +69,7 @@ def check_plan(options: argparse.Namespace) -> None:
 def run(options: argparse.Namespace) -> int:
     check(options)
     if options.plan is not None:
-        return tell(options, through_plan(options))
+        return say(options, through_plan(options))
     by_user = options.by == "user" or (options.html is not None and options.by is None)
     losses = Losses(options.depth)
     lists = None
@@ -83,7 +83,7 @@ def run(options: argparse.Namespace) -> int:
         lists.refuse()
     if options.html is not None:
         html_page.write(options.html, found, options.script, options.before, options.after)
-    return tell(options, found)
+    return say(options, found)
 
 
 def through_plan(options: argparse.Namespace) -> Findings:
@@ -97,7 +97,7 @@ def through_plan(options: argparse.Namespace) -> Findings:
     return found
 
 
-def tell(options: argparse.Namespace, found: Findings) -> int:
+def say(options: argparse.Namespace, found: Findings) -> int:
     if options.json:
         text = json.dumps(found.json(), ensure_ascii=False, indent=1) + "\n"
     else:

@@ -3,7 +3,7 @@ import argparse
 import sys
 
 from ..common.files import at
-from ..common.messages import tell
+from ..common.messages import say
 from ..common.tables import shown
 from .list_translation import notes_on, translated
 from .report import write
@@ -21,5 +21,5 @@ def run(options: argparse.Namespace) -> int:
     for note in found:
         print(f"{at(options.list, note.line)}: {shown(note.words)}", file=sys.stderr)
     if any(note.is_difference for note in found):
-        tell(INEXACT)
+        say(INEXACT)
     return int(bool(found))

@@ -4,7 +4,7 @@ import argparse
 import sys
 
 from ..common.files import whole
-from ..common.messages import counted, own_name, tell
+from ..common.messages import counted, own_name, say
 from .bridge import Bridge, moved_clients
 from .check import report_script
 from .report import Report
@@ -29,7 +29,7 @@ def run(options: argparse.Namespace) -> int:
     look = (f"; {own_name()} check {options.plan} --script {options.script} shows what to look at"
             if report.odd else "")
     became = f"{several} of them became several lines or none"
-    tell(f"{counted(len(lines), 'lines')}, {became}{carried}{look}")
+    say(f"{counted(len(lines), 'lines')}, {became}{carried}{look}")
     return int(report.odd)
 
 

@@ -55,11 +55,11 @@ def rows(plan: Plan, old: list[bytes], new: list[bytes]) -> Iterator[Row]:
     asked = questions(old, new)
     distinct = list(dict.fromkeys(asked.values()))
     said = dict(zip(distinct, verdicts(plan, distinct)))
-    told: set[Key] = set()
+    shown: set[Key] = set()
     for (key, qos), question in asked.items():
         verdict = said[question]
-        if key not in told and not verdict.is_exact:
-            told.add(key)
+        if key not in shown and not verdict.is_exact:
+            shown.add(key)
             yield from rows_of(key, qos, verdict)
 
 

@@ -35,9 +35,9 @@ class Lists:
         rules = [f"--rules={self.rules or 'own'}"] if quiet or self.rules else []
         given = [self.current.program, subcommand, "--json", *rules, *words]
         done = output_of(given, self.named)
-        told = [json.loads(line) for line in done.stdout.decode("utf-8").splitlines()]
+        shown = [json.loads(line) for line in done.stdout.decode("utf-8").splitlines()]
         notes = self.named(done.stderr.decode("utf-8", "replace")).splitlines()
-        return told, notes
+        return shown, notes
 
     def named(self, text: str) -> str:
         """With the names of the files, where the programs read copies."""

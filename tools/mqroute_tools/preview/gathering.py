@@ -7,7 +7,7 @@ from dataclasses import dataclass
 from pathlib import Path
 
 from ..common.files import at
-from ..common.messages import tell
+from ..common.messages import say
 from ..common.programs import output_of
 from ..common.progress import Progress
 from ..losses import acl_verdicts
@@ -185,7 +185,7 @@ def put_together(options: argparse.Namespace, lists: Lists, script: Script,
         later_name(options, script), differences.users, differences.refused, granted, taken,
         answers.subscriptions, answers.remarks, differences.totals, answers.notes)
     found.facts = facts_of(script.path, wanted_lines(found.causes()))
-    tell_of(found.facts, script)
+    say_of(found.facts, script)
     publishes = {line: line for line in found.facts.wanted_publishes}
     if renaming is not None:
         found.plan, found.carried = renaming.plan.name, list(renaming.carried())
@@ -199,7 +199,7 @@ def put_together(options: argparse.Namespace, lists: Lists, script: Script,
     return found
 
 
-def tell_of(facts: ScriptFacts, script: Script) -> None:
+def say_of(facts: ScriptFacts, script: Script) -> None:
     if facts.sets_list:
-        tell(f"{at(script.name, facts.sets_list)}: it sets an access list: from there on neither "
-             "of the two is tried")
+        say(f"{at(script.name, facts.sets_list)}: it sets an access list: from there on neither "
+            "of the two is tried")

@@ -84,8 +84,8 @@ class AccessList:
         words = [self.program, "why", "--json", *self.options, *user, "--", self.path,
                  asked.client, asked.topic]
         done = output_of(words, lambda text: text.replace(self.path, named(self.name)), (0,))
-        told = map(self.verdict_of, done.stdout.decode("utf-8").splitlines())
-        return {one.access: one for one in told}
+        shown = map(self.verdict_of, done.stdout.decode("utf-8").splitlines())
+        return {one.access: one for one in shown}
 
     def verdict_of(self, text: str) -> Verdict:
         found = json.loads(text)
@@ -93,5 +93,5 @@ class AccessList:
                        self.line(found["grant"]))
 
     def line(self, found: dict[str, Any] | None) -> Line | None:
-        """A line as the program tells it, which may have read a copy."""
+        """A line as the program shows it, which may have read a copy."""
         return Line(self.name, found["line"], found["text"]) if found else None

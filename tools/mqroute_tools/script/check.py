@@ -64,8 +64,8 @@ class Check:
             remark = self.subscribed.remark(command)
             faults = [remark] if remark else []
         for fault in faults:
-            told = f"{at(self.name, number)}: {fault}\n"
-            sys.stdout.buffer.write(told.encode("utf-8", "backslashreplace"))
+            listed = f"{at(self.name, number)}: {fault}\n"
+            sys.stdout.buffer.write(listed.encode("utf-8", "backslashreplace"))
 
     def end(self) -> int:
         if self.hidden:

@@ -67,9 +67,9 @@ class Conversation:
     def __init__(self, words: list[str]) -> None:
         self.program = subprocess.Popen([*words, "--unbuffered"], stdin=subprocess.PIPE,
                                         stdout=subprocess.PIPE, stderr=subprocess.PIPE)
-        given, written, told = self.program.stdin, self.program.stdout, self.program.stderr
-        assert given and written and told, "each is a pipe"
-        self.input, self.told = given, told
+        given, written, shown = self.program.stdin, self.program.stdout, self.program.stderr
+        assert given and written and shown, "each is a pipe"
+        self.input, self.shown = given, shown
         self.output = io.TextIOWrapper(written, "utf-8", newline="\n")
         self.blocks: Iterator[Block] = blocks_of(self.output, "the answer")
 
@@ -91,10 +91,10 @@ class Conversation:
         except OSError:
             pass  # the program has ended before it read all
         self.output.close()
-        with self.told as stream:
-            told = stream.read().decode("utf-8", "replace").strip()
+        with self.shown as stream:
+            shown = stream.read().decode("utf-8", "replace").strip()
         self.program.wait()
-        return told
+        return shown
 
 
 class Oracle:

@@ -15,7 +15,7 @@ from collections.abc import Iterator
 from pathlib import Path
 
 from ..common.exit_status import Fault
-from ..common.messages import tell
+from ..common.messages import say
 from ..common.option_values import amount, whole_number
 from ..live.offer import Offer
 from ..live.options import BrokerOptions, add_broker, add_waiting
@@ -96,11 +96,11 @@ def searched(search: Search, use: Use, known: list[Known], options: argparse.Nam
     return report
 
 
-def tell_of_held(held: list[str]) -> None:
+def say_of_held(held: list[str]) -> None:
     if held:
         more = "" if len(held) <= SHOWN else f" and {len(held) - SHOWN} more"
-        tell(f"the broker isn't empty: it retains {', '.join(held[:SHOWN])}{more}: "
-             "what is found may be of these")
+        say(f"the broker isn't empty: it retains {', '.join(held[:SHOWN])}{more}: "
+            "what is found may be of these")
 
 
 def add_what(parser: argparse.ArgumentParser) -> None:
@@ -165,6 +165,6 @@ def on_broker(where: BrokerOptions, oracle: Oracle, known: list[Known],
     from ..live.live_broker import LiveBroker  # wants paho
     until = time.monotonic() + 60 * options.minutes
     broker = LiveBroker(where)
-    tell_of_held(broker.held)
+    say_of_held(broker.held)
     search = Search(broker, oracle, until, by_letter=options.rules == "mosquitto")
     return searched(search, offered(broker.offer, options), known, options)

@@ -8,7 +8,7 @@ from typing import Any
 
 from ..common.exit_status import Fault
 from ..common.files import whole
-from ..common.messages import counted, tell
+from ..common.messages import counted, say
 from ..common.test_results import Outcome, Result, write_junit
 from .difference_kinds import Difference
 from .finds import Find, Search, Unrepeated, report
@@ -81,15 +81,15 @@ class Report:
 
     def interrupted(self) -> None:
         for number, find in enumerate(self.finds, self.before + 1):
-            tell(self.head(find, number))
-        tell(self.sums())
+            say(self.head(find, number))
+        say(self.sums())
 
     def end(self) -> None:
         search = self.search
         for one in search.known:
-            tell(f"known: {one.name}: {one.state()}")
+            say(f"known: {one.name}: {one.state()}")
         for line in search.exercised.report():
-            tell(f"exercised: {line}")
+            say(f"exercised: {line}")
         if self.options.verbose and not self.options.json:
             for passing in search.passing:
                 print("\n".join([*self.passing_lines(passing), ""]), flush=True)
@@ -97,7 +97,7 @@ class Report:
             print(json.dumps(self.summary(), ensure_ascii=False), flush=True)
         if self.options.junit:
             write_junit(self.options.junit, self.results())
-        tell(self.sums())
+        say(self.sums())
 
     def passing_lines(self, passing: Unrepeated) -> list[str]:
         return [f"not seen again: {passing.difference.what}; {self.origin(passing.number)}",
