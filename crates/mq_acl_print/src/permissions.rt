@@ -252,7 +252,7 @@ fn by_direction(alloc: Global, granted: Vec<Difference>) -> Result<Vec<Differenc
     Ok(reading)
 }
 
-fn permissions_text<'a>(
+fn text_of<'a>(
     alloc: Global,
     list: Lines<'a, 'a, 'a>,
     asked: Asked<'a>,
@@ -288,5 +288,5 @@ pub fn permissions_text(
         file: list.file,
         lines: &lines,
     };
-    permissions_text(alloc, list, asked, &granted, refused, json)
+    text_of(alloc, list, asked, &granted, refused, json)
 }

@@ -13,7 +13,7 @@ from .commands import Seen, read_line
 from .output import Command, is_blank
 from .text_faults import shown, text_faults
 
-SHOWN = 20  # faulty lines of a file most of whose lines are no commands
+SHOWN = 20  # faulty lines of a file most of whose lines are invalid
 
 
 class Subscribed:

@@ -40,8 +40,7 @@ returns-in-Who-clause-unread g c = c.answer_who.ensures.unread
 
 pub returns-in-Test-clause-ok : goal.returns-in-Test-clause-ok
 returns-in-Test-clause-ok g c =
-    rw c.in-Test.is
-    (rw (rw c.in-Test.is at c.as_slice-lists.ensures.value) at c.answer_test.ensures.ok)
+    rw c.in-Test.is (rw c.in-Test.is at c.answer_test.ensures.ok)
 
 pub returns-in-Test-clause-unread : goal.returns-in-Test-clause-unread
 returns-in-Test-clause-unread g c = c.answer_test.ensures.unread
