@@ -345,6 +345,18 @@ topic readwrite #
             "old.acl:5: topic write site/x: none of its topics has a new name: left out",
             "plan: the list isn't exact: mqroute-acl compare --plan shows all differences"])
 
+    def test_marks_of_names_that_stay(self):
+        """A line that stays is for the one user too; one that becomes another line isn't."""
+        self.write("plan", "keep wu/weather/#\nwu/+site/level -> v2/+site/level\n")
+        self.write("old.acl", "pattern read wu/%u/#\n")
+        self.assertEqual(self.written("new.acl", "acl", "plan", "old.acl"), "")
+        self.write("old.acl", "pattern read wu/%u/level\n")
+        self.assertEqual(self.written("new.acl", "acl", "plan", "old.acl").splitlines()[:2], [
+            "old.acl:1: pattern read wu/%u/level: by line 1 of the plan it is for the user name "
+            "weather alone: left out of this rule",
+            "old.acl:1: pattern read wu/%u/level: user weather may no longer read "
+            "wu/weather/level"])
+
     def test_lists_of_a_script(self):
         self.write("plan", OWN)
         command = {"do": "acl", "text": OWN_LIST}

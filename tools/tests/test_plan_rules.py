@@ -139,8 +139,11 @@ class Plans(unittest.TestCase):
 
     def translation(self, translator: Translator, wanted: str,
                     renamed: list[tuple[str, str]]) -> tuple[int, bool]:
-        """How many filters there are, and whether they match more: never fewer."""
-        new = list(map(text_of, translator.translation(levels(wanted)).new))
+        """How many filters there are, and whether they match more: never fewer. None covers
+        another one."""
+        filters = translator.translation(levels(wanted)).new
+        new = list(map(text_of, filters))
+        self.assertFalse(any(itertools.starmap(covers, itertools.permutations(filters, 2))), new)
         more = False
         for name, is_now in renamed:
             found = any(matches(one, is_now) for one in new)

@@ -54,7 +54,7 @@ def translated(translator: Translator, text: str, name: str, both: bool = False)
             stays = "it stays as it is" if both else "left out"
             made.notes.append(Note(number, f"{row.text}: none of its topics has a new name: "
                                            f"{stays}"))
-        made.notes += notes_on_marks(translator.plan, row)
+        made.notes += notes_on_marks(translator.plan, row, new)
     return made
 
 
@@ -65,15 +65,17 @@ def new_lines(row: Line, line: str, new: tuple[Levels, ...], both: bool) -> list
     return made or [f"# no new name: {row.text}{row.end}"]
 
 
-def notes_on_marks(plan: Plan, row: Line) -> Iterator[Note]:
+def notes_on_marks(plan: Plan, row: Line, new: tuple[Levels, ...]) -> Iterator[Note]:
     """Where a mark meets a level of a left side the line is for one client id or user name alone,
-    and no line of a list says that."""
+    and no line of a list says that. A line that stays says it of topics that keep their names."""
     if not row.is_pattern or not set(MARKS) & set(row.wanted):
         return
     opened = tuple("+" if level in MARKS else level for level in row.wanted)
     for rule in plan.rules:
         met = rule.within(opened)
         if rule.right is None or rule.within(row.wanted) is not None or met is None:
+            continue
+        if rule.is_keep and row.wanted in new:
             continue
         bound = [f"{'client id' if level == CLIENT else 'user name'} {met[place]}"
                  for place, level in enumerate(row.wanted)

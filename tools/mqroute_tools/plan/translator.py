@@ -7,7 +7,7 @@ import itertools
 from collections.abc import Iterable
 from dataclasses import dataclass
 
-from .filters import HASH, Levels, is_wild, join, meet
+from .filters import HASH, Levels, covers, is_wild, join, meet
 from .regions import Region, others_than, regions
 from .topic_plan import Plan
 from .walk import Others, Rows, denying, gains, start_of
@@ -38,6 +38,7 @@ class Translator:
             new = self.merged((wanted,), new)
             if wanted[-1] == HASH:
                 new = self.opened((wanted,), new)
+            new = uncovered(new)
             self.known[wanted] = Translation(wanted, tuple(new), widest(new))
         return self.known[wanted]
 
@@ -126,6 +127,16 @@ class Translator:
             if front != wanted and self.is_exact(olds, [(*front, HASH)]):
                 news = [*news[:place], (*front, HASH), *news[place + 1:]]
         return list(dict.fromkeys(news))
+
+
+def uncovered(news: Iterable[Levels]) -> list[Levels]:
+    """Without those that another one covers: who subscribes to both is sent what is retained
+    twice."""
+    left: list[Levels] = []
+    for wanted in news:
+        if not any(covers(other, wanted) for other in left):
+            left = [other for other in left if not covers(wanted, other)] + [wanted]
+    return left
 
 
 def replaced(news: Iterable[Levels], one: Levels, joined: Levels, other: Levels) -> list[Levels]:
