@@ -22,6 +22,8 @@ ROWS = [
      "scripts.py resuming 100 100", 0, None),
     ("a publish under an access list of 10,000 lines of one user", "scripts.py rules 10000 60", 12,
      "scripts.py list 10000"),
+    ("a publish that the last of 10,000 lines of one user grant", "scripts.py rules 10000 60 9900",
+     12, "scripts.py list 10000"),
     ("a publish to 5 subscribers, 10 users of ten lines each", "scripts.py users 220", 30,
      "scripts.py userlist 10"),
     ("a publish to 5 subscribers, 10,000 users of ten lines each", "scripts.py users 220", 30,

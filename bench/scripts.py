@@ -3,8 +3,8 @@
 
 five                          100,000 publishes to 5 subscribers of one filter
 big BYTES                     publishes that nobody receives, until the script has BYTES bytes
-rules LINES PUBLISHES         PUBLISHES publishes for an access list of LINES lines, as `list`
-                              writes it
+rules LINES PUBLISHES [FIRST] PUBLISHES publishes for an access list of LINES lines, as `list`
+                              writes it, which its first lines grant, or those from FIRST on
 list LINES                    that access list
 users PUBLISHES               publishes to 5 subscribers for the access list that `userlist` writes
 userlist USERS                an access list of ten lines each for USERS users
@@ -67,11 +67,11 @@ def big(size):
         write(text)
 
 
-def rules(lines, publishes):
+def rules(lines, publishes, first=0):
     line(do="connect", client="client", user="user-1")
     line(do="subscribe", client="client", filter="#")
     for i in range(publishes):
-        line(do="publish", client="client", topic=f"area/{i % lines}/state")
+        line(do="publish", client="client", topic=f"area/{(first + i) % lines}/state")
 
 
 def access_list(lines):
