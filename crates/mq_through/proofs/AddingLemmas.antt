@@ -23,7 +23,7 @@ use Rattle.mq_through.specs.Made.{Names}
 use Rattle.mq_through.specs.Made.{asks_new, asks_old}
 use Rattle.mq_through.specs.Parts.{IsPart}
 use Rattle.mq_through.specs.Through.{IsQuestion, Question, is_shown_of}
-use Rattle.mq_through.specs.declared.lists.Comparison.{Comparison}
+use Rattle.mq_through.specs.declared.comparison.Comparison.{Comparison}
 use Rattle.mq_through.specs.declared.renamed.Renamed.{Renamed}
 use Rattle.mq_through.specs.Tried.{Grows, ShowsChangesIn}
 use Rattle.mq_through.proofs.ShownLemmas.{Adds, adds_apart, adds_kept, adds_real, adds_shown}

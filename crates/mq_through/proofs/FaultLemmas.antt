@@ -18,7 +18,7 @@ use Rattle.mq_regions.specs.declared.region.Region.{Region}
 use Rattle.mq_plan.specs.declared.rule.PlanRule.{PlanRule}
 use Rattle.mq_through.specs.Made.{AreShort, IsClient, IsCompareStop, IsComparison}
 use Rattle.mq_through.specs.Parts.{IsPart}
-use Rattle.mq_through.specs.declared.lists.Comparison.{Comparison}
+use Rattle.mq_through.specs.declared.comparison.Comparison.{Comparison}
 use Rattle.mq_through.proofs.LimitLemmas.{long_none, none_long, short_filters, short_user}
 
 pub users_short : (c : Comparison) → IsComparison c → AreShort c.users.items

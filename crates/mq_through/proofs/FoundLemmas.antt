@@ -13,7 +13,7 @@ use Rattle.mq_through.specs.Clients.{AreTried, StandForAll, ask_client}
 use Rattle.mq_through.specs.Clients.{is_named}
 use Rattle.mq_through.specs.Made.{IsClient, IsComparison}
 use Rattle.mq_through.specs.Through.{IsQuestion, Question}
-use Rattle.mq_through.specs.declared.lists.Comparison.{Comparison}
+use Rattle.mq_through.specs.declared.comparison.Comparison.{Comparison}
 use Rattle.mq_through.proofs.MoveLemmas.{not_empty}
 use Rattle.mq_through.proofs.TextLemmas.{IsStandIn}
 use Rattle.mq_through.proofs.NamedLemmas.{named_short, short_is}

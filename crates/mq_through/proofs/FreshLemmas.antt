@@ -13,7 +13,7 @@ use Rattle.mq_regions.specs.Regions.{is_mark}
 use Rattle.mq_through.specs.Clients.{IsFresh, IsUnused}
 use Rattle.mq_through.specs.Made.{IsClient}
 use Rattle.mq_through.specs.Named.{fresh_base}
-use Rattle.mq_through.specs.declared.lists.Comparison.{Comparison}
+use Rattle.mq_through.specs.declared.comparison.Comparison.{Comparison}
 use Rattle.mq_through.proofs.LongLemmas.{no_byte}
 
 -- what the two bases have

@@ -23,7 +23,7 @@ use Rattle.mq_through.specs.Parts.{IsPart}
 use Rattle.mq_through.specs.Through.{IsQuestion, Question, changes, is_shown_of, new_allows}
 use Rattle.mq_through.specs.Through.{new_reason, old_allows, old_reason, rule_line, same_line}
 use Rattle.mq_through.specs.Tried.{IsLastMade, IsTried, ShowsChangesIn}
-use Rattle.mq_through.specs.declared.lists.Comparison.{Comparison}
+use Rattle.mq_through.specs.declared.comparison.Comparison.{Comparison}
 use Rattle.mq_through.specs.declared.made.Made.{Made}
 use Rattle.mq_through.specs.declared.renamed.Renamed.{Renamed}
 use Rattle.mq_through.proofs.ReasonLemmas.{allows_by_reason, same_by_lines}

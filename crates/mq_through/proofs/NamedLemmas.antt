@@ -33,7 +33,7 @@ use Rattle.mq_through.specs.Checks.{marked_line}
 use Rattle.mq_through.specs.Clients.{is_named}
 use Rattle.mq_through.specs.Named.{plan_names, right_names}
 use Rattle.mq_through.specs.Made.{IsComparison}
-use Rattle.mq_through.specs.declared.lists.Comparison.{Comparison}
+use Rattle.mq_through.specs.declared.comparison.Comparison.{Comparison}
 use Rattle.mq_through.proofs.LimitLemmas.{none_long}
 use Rattle.mq_through.proofs.PartLemmas.{fit_all}
 

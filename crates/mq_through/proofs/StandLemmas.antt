@@ -36,7 +36,7 @@ use Rattle.mq_through.specs.Clients.{is_named}
 use Rattle.mq_through.specs.Named.{asks_client, plan_names, right_names, rule_names}
 use Rattle.mq_through.specs.Made.{IsClient, IsComparison}
 use Rattle.mq_through.specs.Through.{IsQuestion, Question}
-use Rattle.mq_through.specs.declared.lists.Comparison.{Comparison}
+use Rattle.mq_through.specs.declared.comparison.Comparison.{Comparison}
 use Rattle.mq_through.proofs.MoveLemmas.{IsKnownRow, IsMove, concerns_moved, moved, name_dollar}
 use Rattle.mq_through.proofs.RenameLemmas.{IsKnownRule, name_moved, plan_moved, rule_moved}
 use Rattle.mq_through.proofs.PartLemmas.{fit_all}

@@ -22,7 +22,7 @@ use Rattle.mq_through.specs.Clients.{right_tries, row_tries, rule_tries}
 use Rattle.mq_through.specs.Made.{IsClient}
 use Rattle.mq_through.specs.Named.{is_named_in, plan_names, right_names}
 use Rattle.mq_through.specs.Tried.{AreClients}
-use Rattle.mq_through.specs.declared.lists.Comparison.{Comparison}
+use Rattle.mq_through.specs.declared.comparison.Comparison.{Comparison}
 
 -- ---- what is named is tried
 literal_tried : (t : List ℕ) (ls : List (List ℕ)) → is_literal_in t ls ≡ true

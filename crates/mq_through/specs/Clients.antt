@@ -28,7 +28,7 @@ use Rattle.mq_through.specs.declared.fresh.Fresh.{Fresh}
 use Rattle.mq_through.specs.declared.fresh.Fresh.TheVariants.{Any, Each}
 use Rattle.mq_through.specs.declared.fault.ThroughFault.{ThroughFault}
 use Rattle.mq_through.specs.declared.fault.ThroughFault.TheVariants as faults
-use Rattle.mq_through.specs.declared.lists.Comparison.{Comparison}
+use Rattle.mq_through.specs.declared.comparison.Comparison.{Comparison}
 
 -- a list or the plan names the text
 abbrev pub is_named : Comparison → List ℕ → Bool

@@ -29,7 +29,7 @@ use Rattle.mq_regions.specs.declared.region.Region.{Region}
 use Rattle.mq_through.specs.Checks.{AreFit}
 use Rattle.mq_through.specs.Named.{is_named_in}
 use Rattle.mq_through.specs.Through.{rule_line}
-use Rattle.mq_through.specs.declared.lists.Comparison.{Comparison}
+use Rattle.mq_through.specs.declared.comparison.Comparison.{Comparison}
 use Rattle.mq_through.specs.declared.made.Made.{Made}
 use Rattle.mq_through.specs.declared.renamed.Renamed.{Renamed}
 use Rattle.mq_through.specs.declared.fault.ThroughFault.{ThroughFault}

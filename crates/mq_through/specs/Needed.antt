@@ -13,7 +13,7 @@ use Rattle.mq_regions.specs.Regions.{in_kind, in_region, kind_name}
 use Rattle.mq_regions.specs.declared.region.Region.{Region}
 use Rattle.mq_regions.specs.declared.region.RegionKind.{RegionKind}
 use Rattle.mq_through.specs.Made.{Asks, asks_new, asks_old}
-use Rattle.mq_through.specs.declared.lists.Comparison.{Comparison}
+use Rattle.mq_through.specs.declared.comparison.Comparison.{Comparison}
 use Rattle.mq_through.specs.declared.needed.Needed.{Needed}
 use Rattle.mq_through.specs.declared.needed.Side.{Side}
 use Rattle.mq_through.specs.declared.needed.Side.TheVariants.{Old, New}

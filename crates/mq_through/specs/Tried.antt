@@ -11,7 +11,7 @@ use Rattle.mq_witness.specs.Literals.{is_among}
 use Rattle.mq_through.specs.Made.{AreAlike, IsClient, IsMade}
 use Rattle.mq_through.specs.Through.{AreApart, IsQuestion, IsReal}
 use Rattle.mq_through.specs.Through.{Question, is_changed, is_shown_of}
-use Rattle.mq_through.specs.declared.lists.Comparison.{Comparison}
+use Rattle.mq_through.specs.declared.comparison.Comparison.{Comparison}
 use Rattle.mq_through.specs.declared.made.Made.{Made}
 use Rattle.mq_through.specs.declared.renamed.Renamed.{Renamed}
 

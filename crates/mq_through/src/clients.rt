@@ -16,8 +16,9 @@ ghost use Rattle.mq_through.specs.Clients.{right_tries, row_tries, rule_tries};
 ghost use Rattle.mq_through.specs.Made.{IsComparison};
 ghost use Rattle.mq_through.specs.Tried.{AreClients};
 
+use crate::comparison::Comparison;
 use crate::fresh::Fresh;
-use crate::lists::{Comparison, has_user};
+use crate::lists::has_user;
 use crate::named::{can_be_tried, is_wildcard};
 use mq_acl::{Owner, Row};
 use mq_plan::{Plan, PlanRule};

@@ -3,8 +3,8 @@ ghost use Rattle.std.specs.Prelude.{IfOk, IfErr, string_bytes};
 ghost use Rattle.mq_through.specs.Checks.{IsThroughFault};
 ghost use Rattle.mq_through.specs.Clients.{AreFresh, IsFreshFault, IsUnused};
 
+use crate::comparison::Comparison;
 use crate::fault::ThroughFault;
-use crate::lists::Comparison;
 use crate::named::{ask_client, is_named};
 use std::alloc::Global;
 

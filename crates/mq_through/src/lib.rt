@@ -4,6 +4,7 @@
 
 mod check;
 mod clients;
+mod comparison;
 mod fault;
 mod fresh;
 mod idle;

@@ -12,37 +12,13 @@ ghost use Rattle.mq_through.specs.Made.{asks_new, asks_old, spare_row};
 ghost use Rattle.mq_through.specs.Needed.{AreNeeded};
 ghost use Rattle.mq_through.specs.Parts.{IsPart};
 
+use crate::comparison::Comparison;
 use crate::needed::Needed;
 use mq_acl::{Access, Owner, Row};
-use mq_plan::Plan;
 use mq_regions::{Region, new_rows, old_rows};
 use mq_rename::MeetFault;
 use mq_topic::TopicFilter;
 use std::alloc::{AllocError, Global};
-
-/// What is compared.
-pub(crate) struct Comparison<'a> {
-    pub plan: &'a Plan,
-    pub old: &'a [Row],
-    pub new: &'a [Row],
-    /// The user names that the lists have rows for.
-    pub users: Vec<&'a str>,
-    /// How many steps each comparison of a region and a client may take.
-    pub steps: u64,
-}
-
-// Opaque to callers' proofs: one step, and not one for each field (docs/explanation/gate.md).
-impl Drop for Comparison<'_> {
-    fn drop(self) {
-        let Comparison {
-            plan: _,
-            old: _,
-            new: _,
-            users: _,
-            steps: _,
-        } = self;
-    }
-}
 
 /// Whether the name is one of these.
 pub(crate) fn has_user(users: &[&str], name: &str) -> bool

@@ -5,8 +5,9 @@ ghost use Rattle.mq_through.specs.Made.{AreAlike, DecideAlike, IsClient, IsCompa
 ghost use Rattle.mq_through.specs.Needed.{AreNeeded};
 ghost use Rattle.mq_through.specs.Parts.{IsPart};
 
+use crate::comparison::Comparison;
 use crate::idle::is_idle;
-use crate::lists::{Comparison, made_of_new, made_of_old};
+use crate::lists::{made_of_new, made_of_old};
 use crate::needed::Needed;
 use mq_acl::{Owner, Row};
 use mq_regions::Region;

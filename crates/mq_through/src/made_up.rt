@@ -5,7 +5,7 @@ ghost use Rattle.std.specs.Str.{bytes_eq};
 ghost use Rattle.mq_findings.specs.Differences.{has_text, is_of};
 ghost use Rattle.mq_through.specs.Clients.{is_named};
 
-use crate::lists::Comparison;
+use crate::comparison::Comparison;
 use crate::named::is_named;
 use mq_topic::{LevelText, TopicName};
 use std::alloc::{AllocError, Global};

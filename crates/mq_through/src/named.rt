@@ -14,7 +14,7 @@ ghost use Rattle.mq_through.specs.Clients.{ask_client, can_be_tried, is_named};
 ghost use Rattle.mq_through.specs.Named.{asks_client, plan_names, right_names, rule_names};
 
 use crate::check::is_mark;
-use crate::lists::Comparison;
+use crate::comparison::Comparison;
 use mq_acl::{Owner, Row};
 use mq_plan::{Plan, PlanRule};
 use mq_rename::Rename;

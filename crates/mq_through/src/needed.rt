@@ -3,7 +3,7 @@ ghost use Rattle.std.specs.Prelude.{◌≡◌, None, Ok, IfOk, false};
 ghost use Rattle.mq_acl.specs.Views.{owner_view, row_view};
 ghost use Rattle.mq_through.specs.Needed.{AreNeeded, IsNeededOf, IsUnmatched, IsUnneeded, asks_in};
 
-use crate::lists::Comparison;
+use crate::comparison::Comparison;
 use mq_acl::{Owner, Row};
 use mq_regions::{Region, RegionKind};
 use mq_rename::{MeetFault, meet};

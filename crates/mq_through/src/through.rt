@@ -7,9 +7,10 @@ ghost use Rattle.mq_through.specs.Through.{new_allows, old_allows};
 
 use crate::check::first_fault;
 use crate::clients::clients;
+use crate::comparison::Comparison;
 use crate::fault::ThroughFault;
 use crate::fresh::Fresh;
-use crate::lists::{Comparison, add_users};
+use crate::lists::add_users;
 use crate::parts::parts;
 use crate::renamed::Renamed;
 use crate::spares::Spares;

@@ -15,9 +15,10 @@ ghost use Rattle.mq_through.specs.Through as through;
 ghost use Rattle.mq_through.specs.Tried.{AreClients, Grows, IsLastMade, IsTried, ShowsChangesIn};
 ghost use Rattle.mq_through.specs.Tried.{ShowsTried, ShowsTriedIn};
 
+use crate::comparison::Comparison;
 use crate::fault::ThroughFault;
 use crate::like::add;
-use crate::lists::{Comparison, has_user};
+use crate::lists::has_user;
 use crate::made::Made;
 use crate::made_up::unnamed_texts;
 use crate::needed::Needed;
