@@ -39,11 +39,12 @@ user plc
 topic write plant/#
 topic write plant/+/state
 """
-SCRIPT = [connect("meter-1", "meter"), connect("plc-1", "plc"), connect("dash-1", "dash"),
-          connect("hq-1", "hq"), subscribe("dash-1", "plant/#"),
-          subscribe("hq-1", "plant/+/energy"), publish("meter-1", "plant/h1/energy"),
-          publish("meter-1", "plant/h2/energy"), publish("plc-1", "plant/h1/state"),
-          publish("plc-1", "plant/h1/state")]  # lines 7 to 10
+SHORT_DAY = [
+    connect("meter-1", "meter"), connect("plc-1", "plc"), connect("dash-1", "dash"),
+    connect("hq-1", "hq"), subscribe("dash-1", "plant/#"), subscribe("hq-1", "plant/+/energy"),
+    publish("meter-1", "plant/h1/energy"), publish("meter-1", "plant/h2/energy"),
+    publish("plc-1", "plant/h1/state")]
+SCRIPT = [*SHORT_DAY, publish("plc-1", "plant/h1/state")]  # publishes in lines 7 to 10
 LOSSES = """\
 new.acl in place of old.acl, tried on script: 4 clients, 4 publishes; by mosquitto's rules
 

@@ -8,7 +8,7 @@ import subprocess
 import sys
 import unittest
 
-from test_preview import CURRENT, Case, text_of, wants_programs
+from test_preview import CURRENT, SHORT_DAY, Case, text_of, wants_programs
 from two_runs import connect, publish, subscribe
 from worked import HERE, PROGRAM
 
@@ -33,11 +33,7 @@ topic write site/+/machines/state
 PROPOSED = (TRANSLATED.replace("topic read site/+/meters/energy\n", "", 1)
             .replace("user hq\ntopic read site/+/meters", "user hq\ntopic read site/+/meter")
             + "topic write site/#\n")
-SCRIPT = [connect("meter-1", "meter"), connect("plc-1", "plc"), connect("dash-1", "dash"),
-          connect("hq-1", "hq"), subscribe("dash-1", "plant/#"),
-          subscribe("hq-1", "plant/+/energy"), publish("meter-1", "plant/h1/energy"),
-          publish("meter-1", "plant/h2/energy"), publish("plc-1", "plant/h1/state"),
-          publish("plc-1", "plant/h1/count")]  # lines 7 to 10
+SCRIPT = [*SHORT_DAY, publish("plc-1", "plant/h1/count")]  # publishes in lines 7 to 10
 TOP_OF_TEXT = """\
 new.acl in place of old.acl, topics renamed by plan, tried on script: 4 clients, 4 publishes; \
 by mqroute's own rules
