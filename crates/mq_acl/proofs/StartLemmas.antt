@@ -1,7 +1,8 @@
 -- Texts that differ before a wildcard or a mark: the levels don't match.
 use Rattle.std.proofs.Common.{◌≡◌, ◌⊎◌, ℕ, Bool, true, false, not, ◌&&◌, ◌||◌, ◌==◌, List}
-use Rattle.std.proofs.Common.{[], ◌∷◌, arith, inl, inr, refl, ap, sym, ◌∙◌, length, cond, subst}
-use Rattle.std.proofs.Common.{Option, codes, true≢false}
+use Rattle.std.proofs.Common.{[], ◌∷◌, arith, inl, inr, refl, ap, sym, ◌∙◌, length, cond}
+use Rattle.std.proofs.Common.{Option, codes, true≢false, ◌++◌, subst₂}
+use Rattle.std.specs.Prelude.{nat_le}
 use Rattle.std.proofs.lemmas.Bool.Decides.{nat_tests}
 use Rattle.std.specs.List.{onto_first}
 use Rattle.std.specs.Str.{bytes_eq}
@@ -10,7 +11,9 @@ use Rattle.mq_topic.specs.Matching.{levels_match_by}
 use Rattle.mq_topic.proofs.Walk.{levels_match_cons}
 use Rattle.mq_acl.specs.Access.{begins_with_dollar, covers, row_level_matches}
 use Rattle.mq_acl.specs.Rows.{AclRow, Who, Anonymous, Named, Everyone}
-use Rattle.mq_acl.specs.Starts.{is_special, starts_apart}
+use Rattle.mq_acl.specs.Starts.{StartsApart, is_special}
+use Rattle.mq_topic.specs.Texts.{contains_byte, is_name, is_plain, is_text}
+use Rattle.std.proofs.lemmas.Bool.{and_parts, not-true, or_parts}
 
 -- a level that is no wildcard and no mark
 abbrev is_literal : List ℕ → Bool
@@ -59,38 +62,37 @@ first_apart x y xs ys plain differ false false e f = at (levels xs) (levels ys)
     at (l ∷ ls) [] = inl (ap not plain, ap (λ b. b && bytes_eq l []) differ)
     at (l ∷ ls) (m ∷ ms) = inl (ap not plain, ap (λ b. b && bytes_eq l m) differ)
 
-starts_levels : (filter name : List ℕ) → starts_apart filter name ≡ true
-    → Apart (levels filter) (levels name)
-starts_levels [] name h = absurd (true≢false (sym h))
-starts_levels (x ∷ xs) [] h = absurd (true≢false (sym h))
-starts_levels (x ∷ xs) (y ∷ ys) h =
-    at (is_special x) refl (x == y) refl (starts_levels xs ys)
+starts_levels : (start fs ns : List ℕ) (x y : ℕ) → contains_byte 37 start ≡ false
+    → contains_byte 43 (start ++ y ∷ ns) ≡ false → contains_byte 35 (start ++ y ∷ ns) ≡ false
+    → is_special x ≡ false → (x == y) ≡ false
+    → Apart (levels (start ++ x ∷ fs)) (levels (start ++ y ∷ ns))
+starts_levels [] fs ns x y marks plus hash plain differ =
+    first_apart x y fs ns plain differ (is_slash x) (is_slash y) refl refl
+starts_levels (s ∷ ss) fs ns x y marks plus hash plain differ =
+    let mark = or_parts (s == 37) (contains_byte 37 ss) marks in
+    let one = or_parts (s == 43) (contains_byte 43 (ss ++ y ∷ ns)) plus in
+    let all = or_parts (s == 35) (contains_byte 35 (ss ++ y ∷ ns)) hash in
+    at (is_slash s) (rw (mark.0, one.0, all.0) refl)
+    (starts_levels ss fs ns x y mark.1 one.1 all.1 plain differ)
   where
-    next : (a b : Bool) → is_slash x ≡ a → is_slash y ≡ b → x ≡ y → is_special x ≡ false
-        → Apart (levels xs) (levels ys)
-        → Apart (cond a ([] ∷ levels xs) (onto_first x (levels xs)))
-        (cond b ([] ∷ levels ys) (onto_first y (levels ys)))
-    next true true e f same plain rest = inr (refl, rest)
-    next true false e f same plain rest = absurd (true≢false (sym e ∙ ap is_slash same ∙ f))
-    next false true e f same plain rest =
-        absurd (true≢false (sym f ∙ ap is_slash (sym same) ∙ e))
-    next false false e f same plain rest =
-        subst (λ z. Apart (onto_first x (levels xs)) (onto_first z (levels ys))) same
-        (onto_apart x plain (levels xs) (levels ys) rest)
+    at : (a : Bool) → is_special s ≡ false
+        → Apart (levels (ss ++ x ∷ fs)) (levels (ss ++ y ∷ ns))
+        → Apart (cond a ([] ∷ levels (ss ++ x ∷ fs)) (onto_first s (levels (ss ++ x ∷ fs))))
+        (cond a ([] ∷ levels (ss ++ y ∷ ns)) (onto_first s (levels (ss ++ y ∷ ns))))
+    at true literal rest = inr (refl, rest)
+    at false literal rest =
+        onto_apart s literal (levels (ss ++ x ∷ fs)) (levels (ss ++ y ∷ ns)) rest
 
-    decided : (a b : Bool) → is_special x ≡ a → (x == y) ≡ b
-        → cond a false (cond b (starts_apart xs ys) true) ≡ true
-    decided a b e f =
-        (λ i. cond (sym e i) false (cond (sym f i) (starts_apart xs ys) true)) ∙ h
-
-    at : (a : Bool) → is_special x ≡ a → (b : Bool) → (x == y) ≡ b
-        → (starts_apart xs ys ≡ true → Apart (levels xs) (levels ys))
-        → Apart (levels (x ∷ xs)) (levels (y ∷ ys))
-    at true e b f rest = absurd (true≢false (sym (decided true b e f)))
-    at false e true f rest =
-        next (is_slash x) (is_slash y) refl refl (grind (arith, nat_tests, f)) e
-        (rest (decided false true e f))
-    at false e false f rest = first_apart x y xs ys e f (is_slash x) (is_slash y) refl refl
+levels_apart : (filter name : List ℕ) → is_plain name ≡ true → StartsApart filter name
+    → Apart (levels filter) (levels name)
+levels_apart filter name plain apart =
+    let both = and_parts (not (contains_byte 43 name)) (not (contains_byte 35 name)) plain in
+    let lacks : (b : ℕ) → not (contains_byte b name) ≡ true
+    → contains_byte b (apart.start ++ apart.byte ∷ apart.name_rest) ≡ false =
+    λ b h. ap (contains_byte b) (sym apart.name_is) ∙ not-true (contains_byte b name) h in
+    subst₂ (λ f n. Apart (levels f) (levels n)) (sym apart.filter_is) (sym apart.name_is)
+    (starts_levels apart.start apart.filter_rest apart.name_rest apart.wanted apart.byte
+    apart.unmarked (lacks 43 both.0) (lacks 35 both.1) apart.literal apart.differ)
 
 not_named : (w : List ℕ) (byte : ℕ) (rest : List ℕ) → is_literal w ≡ true
     → (is_special byte ≡ true) → bytes_eq w (byte ∷ rest) ≡ false
@@ -138,10 +140,45 @@ apart_levels who client user (w ∷ fs) (l ∷ ns) (inr h) =
     ∙ ap (λ b. row_level_matches who client user w l && b) (apart_levels who client user fs ns h.1)
     ∙ and_none (row_level_matches who client user w l)
 
+name_is_plain : (text : List ℕ) → is_name text ≡ true → is_plain text ≡ true
+name_is_plain text h =
+    let short = nat_le (length (levels text)) 200 in
+    (and_parts (is_text text) (is_plain text) (and_parts (is_text text && is_plain text) short h).0).1
+
 -- a row whose filter starts apart from the name doesn't cover it
 pub not_covered : (client : List ℕ) (user : Option (List ℕ)) (name : List ℕ) (row : AclRow)
-    → starts_apart row.filter name ≡ true → false ≡ covers client user name row
-not_covered client user name row h =
+    → is_name name ≡ true → StartsApart row.filter name → false ≡ covers client user name row
+not_covered client user name row valid apart =
     let may = not (begins_with_dollar name) || begins_with_dollar row.filter in
     sym (ap (λ b. may && b) (apart_levels row.who client user (levels row.filter) (levels name)
-    (starts_levels row.filter name h)) ∙ and_none may)
+    (levels_apart row.filter name (name_is_plain name valid) apart)) ∙ and_none may)
+
+pub apart_at_once : (x y : ℕ) (fs ns filter name : List ℕ) → filter ≡ x ∷ fs → name ≡ y ∷ ns
+    → is_special x ≡ false → (x == y) ≡ false → StartsApart filter name
+apart_at_once x y fs ns filter name is_filter is_name literal differ = record {
+  start = [];
+  wanted = x;
+  byte = y;
+  filter_rest = fs;
+  name_rest = ns;
+  filter_is = is_filter;
+  name_is = is_name;
+  unmarked = refl;
+  literal = literal;
+  differ = differ;
+}
+
+pub apart_behind : (x y : ℕ) (fs ns filter name : List ℕ) → filter ≡ x ∷ fs → name ≡ y ∷ ns
+    → x ≡ y → (x == 37) ≡ false → StartsApart fs ns → StartsApart filter name
+apart_behind x y fs ns filter name is_filter is_name same unmarked rest = record {
+  start = x ∷ rest.start;
+  wanted = rest.wanted;
+  byte = rest.byte;
+  filter_rest = rest.filter_rest;
+  name_rest = rest.name_rest;
+  filter_is = is_filter ∙ ap (λ t. x ∷ t) rest.filter_is;
+  name_is = is_name ∙ (λ i. sym same i ∷ rest.name_is i);
+  unmarked = ap (λ b. b || contains_byte 37 rest.start) unmarked ∙ rest.unmarked;
+  literal = rest.literal;
+  differ = rest.differ;
+}

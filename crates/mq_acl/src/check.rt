@@ -1,11 +1,11 @@
-ghost use Rattle.std.specs.Prelude.{◌≡◌, ◌&&◌, ◌||◌, not, List};
+ghost use Rattle.std.specs.Prelude.{◌≡◌, ◌&&◌, ◌||◌, not, true, List};
 ghost use Rattle.std.specs.List.{list_any};
 ghost use Rattle.std.specs.Option.{option_copied};
 ghost use Rattle.mq_acl.specs.Access.{row_level_matches, begins_with_dollar, covers, applies};
 ghost use Rattle.mq_acl.specs.Access.{grants, concerns, rows_allow};
 ghost use Rattle.mq_acl.specs.Rows.{AclRow};
 ghost use Rattle.mq_acl.specs.RowsByAccess.{IsSplit};
-ghost use Rattle.mq_acl.specs.Starts.{is_special, starts_apart};
+ghost use Rattle.mq_acl.specs.Starts.{StartsApart, is_special};
 ghost use Rattle.mq_acl.specs.RowsByOwner.{IsGrouped};
 ghost use Rattle.mq_topic.specs.Levels.{levels};
 ghost use Rattle.mq_topic.specs.Matching.{levels_match_by};
@@ -53,9 +53,9 @@ fn is_special(byte: u8) -> bool
 }
 
 // Whether the name differs from what the filter has before such a byte: most rows of a long list
-// are passed over so.
+// are passed over so. A name has no wildcards, so that bytes that both have are none.
 fn starts_apart(filter: &[u8], name: &[u8]) -> bool
-    ensures { result ≡ starts_apart filter.now name.now }
+    ensures { result ≡ true → StartsApart filter.now name.now }
 {
     let (Some((wanted, filter_rest)), Some((byte, name_rest))) = (
         filter.split_first(),
@@ -63,7 +63,10 @@ fn starts_apart(filter: &[u8], name: &[u8]) -> bool
     ) else {
         return false;
     };
-    !is_special(*wanted) && (wanted != byte || starts_apart(filter_rest, name_rest))
+    if wanted != byte {
+        return !is_special(*wanted);
+    }
+    *wanted != b'%' && starts_apart(filter_rest, name_rest)
 }
 
 fn covers(row: &Row, client: &str, user: Option<&str>, name: &TopicName) -> bool

@@ -1,6 +1,6 @@
-use Rattle.std.proofs.Common.{◌∙◌, sym}
+use Rattle.std.proofs.Common.{◌∙◌, subst₂}
 use Rattle.std.specs.Option.{option_copied}
-use Rattle.mq_acl.specs.Starts.{starts_apart}
+use Rattle.mq_acl.specs.Starts.{StartsApart}
 use Rattle.mq_acl.specs.Views.{row_view}
 use Rattle.mq_acl.proofs.StartLemmas.{not_covered}
 use Rattle.mq_acl.proofs.check.covers.Goals as goal
@@ -10,6 +10,5 @@ returns-then-starts_apart c =
     let filter = c.as_bytes.ensures.value ∙ c.text-filter.ensures.text in
     let name = c.as_bytes-2.ensures.value ∙ c.text-name.ensures.text in
     not_covered c.args.client.now (option_copied c.args.user) c.args.name.now
-    (row_view c.args.row.now)
-    ((λ i. starts_apart (sym filter i) (sym name i)) ∙ sym c.starts_apart.ensures
-    ∙ c.if-starts_apart.true)
+    (row_view c.args.row.now) c.text-name.ensures.name
+    (subst₂ StartsApart filter name (c.starts_apart.ensures c.if-starts_apart.true))
