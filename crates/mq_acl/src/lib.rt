@@ -27,4 +27,4 @@ pub use read::{read_rows, read_rows_by};
 pub use rights::{may_read, may_write};
 pub use row::{Owner, Row};
 pub use rules::Rules;
-pub use words::has_mark;
+pub use words::{has_mark, is_blank, split_word, trimmed};

@@ -1,3 +1,13 @@
+//! Reads the text of an access list.
+//!
+//! ```text
+//! topic read notice                      line 1: clients without a user name
+//!
+//! user ops
+//! topic plant/#                          line 4: user ops, reading and writing
+//! topic deny plant/+/raw                 line 5: user ops
+//! pattern write meters/%c/%u             line 6: all clients, each its own topic
+//! ```
 ghost use Rattle.std.specs.Prelude.{◌≡◌, ℕ, ◌+◌, List, ◌++◌, ◌∷◌, ◌⊎◌, IfOk, IfErr, OnOk};
 ghost use Rattle.std.specs.Prelude.{MatchResult, Ok, Err, Some};
 ghost use Rattle.std.specs.Option.{option_to_list};

@@ -1,4 +1,7 @@
 //! The rows of an access list: those that deny stand in front.
+//!
+//! Of a client and a topic, those that deny are asked first, and then those that grant: the first
+//! that covers the topic decides.
 ghost use Rattle.std.specs.Prelude.{◌≡◌, [], ◌++◌, ◌∷◌, List, IfOk, OnOk};
 ghost use Rattle.mq_acl.specs.Rows.{AclRow};
 ghost use Rattle.mq_acl.specs.Views.{row_view, row_views};

@@ -13,15 +13,16 @@ use Rattle.mq_acl.specs.declared.access.Direction.{Direction}
 use Rattle.mq_acl.specs.declared.row.Row.{Row}
 use Rattle.mq_witness.specs.Clients.{can_be_id}
 use Rattle.mq_witness.specs.Ruled.{are_asked_of}
-use Rattle.mq_findings.specs.Classes.{can_be_user, user_of}
-use Rattle.mq_findings.specs.Classes.{is_in}
-use Rattle.mq_findings.specs.Differences.{is_change, is_compared, is_shown_of, IsReal, same_way, ShowsAll}
-use Rattle.mq_findings.specs.Differences.{same_direction, same_reason, same_start}
-use Rattle.mq_findings.specs.Reasons.{reason_of}
+use Rattle.mq_differences.specs.Classes.{can_be_user, user_of}
+use Rattle.mq_differences.specs.Classes.{is_in}
+use Rattle.mq_differences.specs.Differences.{is_change, is_compared, is_shown_of, IsReal, same_way}
+use Rattle.mq_differences.specs.Differences.{ShowsAll}
+use Rattle.mq_differences.specs.Differences.{same_direction, same_reason, same_start}
+use Rattle.mq_differences.specs.Reasons.{reason_of}
 use Rattle.mq_lint.specs.Needless.{AllowSame}
-use Rattle.mq_findings.specs.declared.difference.Difference.{Difference}
-use Rattle.mq_findings.specs.declared.way.Way.{Way}
-use Rattle.mq_findings.specs.declared.way.Way.TheVariants.{Gained, Lost}
+use Rattle.mq_differences.specs.declared.difference.Difference.{Difference}
+use Rattle.mq_differences.specs.declared.way.Way.{Way}
+use Rattle.mq_differences.specs.declared.way.Way.TheVariants.{Gained, Lost}
 use Rattle.mq_who.proofs.ExtentLemmas.{any_weaker}
 use Rattle.mq_acl_answers.specs.Answers.{AreChanges, Differ, IsCompared, NoneChanges, SomeChanges}
 use Rattle.mq_acl_answers.specs.Answers.{SaysWhetherSame, is_way}

@@ -12,8 +12,8 @@ use Rattle.mq_acl.specs.declared.access.Direction.{Direction}
 use Rattle.mq_acl.specs.declared.access.Direction.TheVariants.{Reading, Writing}
 use Rattle.mq_acl.specs.declared.row.Row.{Row}
 use Rattle.mq_acl.specs.declared.rules.Rules.{Rules}
-use Rattle.mq_findings.specs.Classes.{can_be_user, user_of}
-use Rattle.mq_findings.specs.declared.difference.Difference.{Difference}
+use Rattle.mq_differences.specs.Classes.{can_be_user, user_of}
+use Rattle.mq_differences.specs.declared.difference.Difference.{Difference}
 use Rattle.mq_expect.specs.Expectations.{excepted}
 use Rattle.mq_who.specs.Claims.{IsAgainst, KeepsTo, is_claimed, is_one}
 use Rattle.mq_who.specs.Who.{is_case}

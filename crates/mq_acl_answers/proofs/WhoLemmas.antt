@@ -11,13 +11,13 @@ use Rattle.mq_acl.specs.declared.access.Direction.{Direction}
 use Rattle.mq_acl.specs.declared.row.Row.{Row}
 use Rattle.mq_acl.specs.declared.rules.Rules.{Rules}
 use Rattle.mq_witness.specs.Rows.{is_user_of}
-use Rattle.mq_findings.specs.Classes.{is_listed, user_of}
-use Rattle.mq_findings.specs.Differences.{same_direction, same_reason, same_start}
-use Rattle.mq_findings.specs.Reasons.{reason_of}
-use Rattle.mq_findings.specs.declared.class.Class.{Class}
-use Rattle.mq_findings.specs.declared.class.Class.TheVariants as classes
-use Rattle.mq_findings.specs.declared.difference.Difference.{Difference}
-use Rattle.mq_findings.proofs.FirstLemmas.{first_place}
+use Rattle.mq_differences.specs.Classes.{is_listed, user_of}
+use Rattle.mq_differences.specs.Differences.{same_direction, same_reason, same_start}
+use Rattle.mq_differences.specs.Reasons.{reason_of}
+use Rattle.mq_differences.specs.declared.class.Class.{Class}
+use Rattle.mq_differences.specs.declared.class.Class.TheVariants as classes
+use Rattle.mq_differences.specs.declared.difference.Difference.{Difference}
+use Rattle.mq_differences.proofs.FirstLemmas.{first_place}
 use Rattle.mq_who.specs.Who.{IsListing, is_listed_in, is_member}
 use Rattle.mq_who.proofs.ExtentLemmas.{any_weaker, direction_is}
 use Rattle.mq_acl_answers.specs.Who.{NoOtherMay, OthersMay, SaysWhetherOthers, has_word, is_kept}

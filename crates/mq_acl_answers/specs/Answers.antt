@@ -13,11 +13,11 @@ use Rattle.mq_acl.specs.declared.access.Direction.{Direction}
 use Rattle.mq_acl.specs.declared.access.Direction.TheVariants.{Reading, Writing}
 use Rattle.mq_acl.specs.declared.row.Row.{Row}
 use Rattle.mq_witness.specs.Clients.{can_be_id}
-use Rattle.mq_findings.specs.Classes.{can_be_user}
-use Rattle.mq_findings.specs.Reasons.{first_grant, is_grant, reason_of}
-use Rattle.mq_findings.specs.Differences.{ShowsAll, IsReal, AreApart, AreMarked, is_change}
-use Rattle.mq_findings.specs.Differences.{same_way}
-use Rattle.mq_findings.specs.declared.way.Way.{Way}
+use Rattle.mq_differences.specs.Classes.{can_be_user}
+use Rattle.mq_differences.specs.Reasons.{first_grant, is_grant, reason_of}
+use Rattle.mq_differences.specs.Differences.{ShowsAll, IsReal, AreApart, AreMarked, is_change}
+use Rattle.mq_differences.specs.Differences.{same_way}
+use Rattle.mq_differences.specs.declared.way.Way.{Way}
 use Rattle.mq_lint.specs.Needless.{AllowSame, is_asked}
 use Rattle.mq_acl_answers.specs.declared.commands.compare.Changes.{Changes}
 use Rattle.mq_acl_answers.specs.declared.outcome.Outcome.{Outcome}

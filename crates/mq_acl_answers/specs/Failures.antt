@@ -13,7 +13,7 @@ use Rattle.mq_acl.specs.declared.row.Row.{Row}
 use Rattle.mq_acl.specs.declared.rules.Rules.{Rules}
 use Rattle.mq_acl.specs.declared.rules.Rules.TheVariants.{Mosquitto}
 use Rattle.mq_acl_print.specs.declared.list.ListText.{ListText}
-use Rattle.mq_findings.specs.Steps.{enough_steps}
+use Rattle.mq_differences.specs.Steps.{enough_steps}
 use Rattle.mq_witness.specs.Limits.{has_short_levels, is_short, long_line, marked_line}
 use Rattle.mq_jsonl.specs.Lines.{all_lines}
 use Rattle.mq_reach.specs.Faults.{has_long_at}

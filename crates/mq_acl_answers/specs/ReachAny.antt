@@ -10,8 +10,8 @@ use Rattle.mq_acl.specs.declared.row.Row.{Row}
 use Rattle.mq_acl.specs.declared.rules.Rules.{Rules}
 use Rattle.mq_witness.specs.Clients.{can_be_id}
 use Rattle.mq_witness.specs.Rows.{is_user_of}
-use Rattle.mq_findings.specs.Classes.{can_be_user}
-use Rattle.mq_findings.specs.declared.difference.Difference.{Difference}
+use Rattle.mq_differences.specs.Classes.{can_be_user}
+use Rattle.mq_differences.specs.declared.difference.Difference.{Difference}
 use Rattle.mq_expect.specs.Expectations.{Claim, Whom, Anonymous, User}
 use Rattle.mq_expect.specs.declared.expectation.Holds.TheVariants.{Never}
 use Rattle.mq_who.specs.Claims.{IsUnasked}

@@ -11,11 +11,11 @@ use Rattle.mq_acl.specs.declared.row.Row.{Row}
 use Rattle.mq_acl.specs.declared.rules.Rules.{Rules}
 use Rattle.mq_witness.specs.Clients.{can_be_id}
 use Rattle.mq_witness.specs.Rows.{is_user_of}
-use Rattle.mq_findings.specs.Classes.{can_be_user}
-use Rattle.mq_findings.specs.Differences.{same_direction}
-use Rattle.mq_findings.specs.declared.class.Class.{Class}
-use Rattle.mq_findings.specs.declared.class.Class.TheVariants as classes
-use Rattle.mq_findings.specs.declared.difference.Difference.{Difference}
+use Rattle.mq_differences.specs.Classes.{can_be_user}
+use Rattle.mq_differences.specs.Differences.{same_direction}
+use Rattle.mq_differences.specs.declared.class.Class.{Class}
+use Rattle.mq_differences.specs.declared.class.Class.TheVariants as classes
+use Rattle.mq_differences.specs.declared.difference.Difference.{Difference}
 use Rattle.mq_who.specs.Who.{IsListing, are_asked, is_asked, is_case}
 use Rattle.mq_who.specs.declared.permissions.Permissions.{Permissions}
 use Rattle.mq_acl_answers.specs.Answers.{AreRows}

@@ -1,7 +1,7 @@
 //! Where mosquitto decides otherwise, in words.
 use mq_acl::Direction;
 use mq_acl_args::Client;
-use mq_findings::Reason;
+use mq_differences::Reason;
 use mq_otherwise::{Otherwise, OtherwiseFault};
 use mq_topic::LevelText;
 use std::alloc::{AllocError, Global};

@@ -14,8 +14,8 @@ use Rattle.mq_acl.specs.declared.access.Direction.{Direction}
 use Rattle.mq_acl.specs.declared.access.Direction.TheVariants.{Reading, Writing}
 use Rattle.mq_acl.specs.declared.rules.Rules.{Rules}
 use Rattle.mq_acl.specs.declared.rules.Rules.TheVariants.{Own}
-use Rattle.mq_findings.specs.declared.way.Way.{Way}
-use Rattle.mq_findings.specs.declared.way.Way.TheVariants.{Gained, Lost}
+use Rattle.mq_differences.specs.declared.way.Way.{Way}
+use Rattle.mq_differences.specs.declared.way.Way.TheVariants.{Gained, Lost}
 use Rattle.mq_args.specs.Arguments.{any_arguments, flag, number_option, option, optional_argument}
 use Rattle.mq_args.specs.Arguments.{required_argument}
 use Rattle.mq_args.specs.Arguments.{several_arguments, rule_for, with_rules}

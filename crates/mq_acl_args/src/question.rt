@@ -7,7 +7,7 @@ use crate::client::Client;
 use crate::files::{input_in, inputs_among};
 use crate::selection::Selection;
 use mq_acl::Direction;
-use mq_findings::Way;
+use mq_differences::Way;
 
 /// Which subscriptions it is asked about.
 #[derive(Clone, Copy, Drop)]

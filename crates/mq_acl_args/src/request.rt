@@ -16,7 +16,7 @@ use crate::question::{Compare, Question, Reach, Subscriptions, Test, Through, Wh
 use crate::selection::Selection;
 use clap::ArgMatches;
 use mq_acl::{Direction, Rules};
-use mq_findings::Way;
+use mq_differences::Way;
 use std::alloc::{AllocError, Global};
 
 /// What the command line asks for.

@@ -1,5 +1,5 @@
 //! The new names of the topics that are shown.
-use mq_findings::Difference;
+use mq_differences::Difference;
 use mq_through::Renamed;
 use mq_topic::{LevelText, TopicName};
 use std::alloc::{AllocError, Global};

@@ -37,7 +37,7 @@ fn add_one<'a>(
                 "old",
                 Datum::LineIf(line_if(compared.old, difference.old_reason)),
             ),
-            ("placeholders", Datum::Texts(&difference.made_up)),
+            ("placeholders", Datum::Texts(&difference.placeholders)),
             (
                 "rule",
                 Datum::LineIf(rule_line(compared.plan, renamed.rule)),

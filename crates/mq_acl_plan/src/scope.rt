@@ -1,4 +1,4 @@
-use mq_findings::Way;
+use mq_differences::Way;
 
 /// How an answer is shown.
 #[derive(Clone, Copy, Drop)]

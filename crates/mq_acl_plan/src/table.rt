@@ -5,7 +5,7 @@ use crate::scope::PlanScope;
 use mq_acl_print::{
     ChangeRow, Lines, Side, add_client_id, add_topic, change_table, decision, group_text, rows_word,
 };
-use mq_findings::{Difference, Group, gather};
+use mq_differences::{Difference, Group, gather};
 use mq_through::Renamed;
 use mq_topic::LevelText;
 use std::alloc::{AllocError, Global};

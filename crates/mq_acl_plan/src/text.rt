@@ -4,7 +4,7 @@ use crate::objects::json_lines;
 use crate::scope::PlanScope;
 use crate::table::changes_table;
 use mq_acl_print::{Lines, ListText, lines_of};
-use mq_findings::Way;
+use mq_differences::Way;
 use mq_through::Renamed;
 use std::alloc::{AllocError, Global};
 

@@ -4,7 +4,7 @@ use crate::json::{Datum, add_object};
 use crate::lines::add_line;
 use crate::list::{Line, ListText};
 use crate::placeholders::shown_topic;
-use mq_findings::Difference;
+use mq_differences::Difference;
 use mq_topic::LevelText;
 use std::alloc::{AllocError, Global};
 
@@ -26,12 +26,12 @@ fn add_json<'a>(
     found: Option<&'a Difference>,
 ) -> Result<(), AllocError> {
     let (user, wanted) = about;
-    let (client, topic, line, made_up): (_, _, _, &[String]) = match found {
+    let (client, topic, line, placeholders): (_, _, _, &[String]) = match found {
         Some(found) => (
             Some(found.client.as_str()),
             Some(found.topic.text()),
             line_of(list, found),
-            &found.made_up,
+            &found.placeholders,
         ),
         None => (None, None, None, &[]),
     };
@@ -42,7 +42,7 @@ fn add_json<'a>(
             ("client", Datum::TextIf(client)),
             ("filter", Datum::Text(wanted)),
             ("line", Datum::LineIf(line)),
-            ("placeholders", Datum::Texts(made_up)),
+            ("placeholders", Datum::Texts(placeholders)),
             ("topic", Datum::TextIf(topic)),
             ("user", Datum::TextIf(user)),
         ],

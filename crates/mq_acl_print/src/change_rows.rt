@@ -3,7 +3,7 @@ use crate::deciding::Side;
 use crate::table::{add_cell, widened};
 use crate::who::add_who;
 use mq_acl::Direction;
-use mq_findings::Way;
+use mq_differences::Way;
 use std::alloc::{AllocError, Global};
 
 /// What changes for some clients, as it is shown.

@@ -8,7 +8,7 @@ use crate::published::{ScriptTraffic, add_counts, add_pattern, publishes_text};
 use crate::who::group_text;
 use crate::words::{access_word, rows_word, way_word};
 use mq_acl::{Row, Rules};
-use mq_findings::{Difference, Group, Way, gather};
+use mq_differences::{Difference, Group, Way, gather};
 use mq_topic::LevelText;
 use mq_traffic::Publishes;
 use std::alloc::{AllocError, Global};
@@ -102,7 +102,7 @@ fn add_json<'a>(
         ("client", Datum::Text(difference.client.as_str())),
         ("new", Datum::LineIf(new_line)),
         ("old", Datum::LineIf(old_line)),
-        ("placeholders", Datum::Texts(&difference.made_up)),
+        ("placeholders", Datum::Texts(&difference.placeholders)),
         ("topic", Datum::Text(difference.topic.text())),
         ("user", Datum::TextIf(difference.class.user())),
     ]?;

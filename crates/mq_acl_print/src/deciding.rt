@@ -1,6 +1,6 @@
 //! What decides, as it stands in a list.
 use crate::list::{Line, Lines};
-use mq_findings::Reason;
+use mq_differences::Reason;
 use std::alloc::{AllocError, Global};
 
 /// What decides in a list.

@@ -3,7 +3,7 @@ use crate::asked_client::{AskedClient, add_client};
 use crate::json::{Datum, add_object};
 use crate::lines::add_line;
 use crate::list::{Line, ListText};
-use mq_findings::{Reason, Verdict};
+use mq_differences::{Reason, Verdict};
 use std::alloc::{AllocError, Global};
 
 fn add_grant(

@@ -11,7 +11,6 @@ mod faults;
 mod json;
 mod lines;
 mod list;
-mod made_up;
 mod permission_rows;
 mod permissions;
 mod placeholders;

@@ -4,7 +4,7 @@ use crate::list::Lines;
 use crate::placeholders::shown_topic;
 use crate::who::who_text;
 use mq_acl::Direction;
-use mq_findings::{Difference, Reason};
+use mq_differences::{Difference, Reason};
 use std::alloc::{AllocError, Global};
 use std::collections::BTreeMap;
 

@@ -9,7 +9,7 @@ use crate::table::{add_cell, widened};
 use crate::who::add_who;
 use crate::words::access_word;
 use mq_acl::{Direction, Row};
-use mq_findings::Difference;
+use mq_differences::Difference;
 use mq_topic::LevelText;
 use mq_traffic::{Publishes, TopicPattern};
 use std::alloc::{AllocError, Global};
@@ -91,7 +91,7 @@ fn permission_data<'d>(
         ("every", Datum::Flag(exceptions.is_empty())),
         ("line", Datum::LineIf(line_if(list, granted.old_reason))),
         ("not", Datum::Exceptions(exceptions)),
-        ("placeholders", Datum::Texts(&granted.made_up)),
+        ("placeholders", Datum::Texts(&granted.placeholders)),
         ("topic", Datum::Text(granted.topic.text())),
         ("user", Datum::TextIf(granted.class.user())),
     ]?)

@@ -1,10 +1,17 @@
-//! What stands for others in a difference, as it is shown: `<level>`, `<client id>`, `<user>`.
-use crate::made_up::is_made_up;
-use mq_findings::Difference;
+//! The placeholders of a difference, as they are shown: `<level>`, `<client id>`, `<user>`.
+use mq_differences::Difference;
 use mq_topic::{LevelText, TopicName};
 use std::alloc::{AllocError, Global};
 
-// What a text that stands for others is, of which a level of the topic is one.
+/// Whether the text is a placeholder: it stands for any that no line names.
+pub(crate) fn is_placeholder(difference: &Difference, text: &str) -> bool {
+    difference
+        .placeholders
+        .iter()
+        .any(|other| other.as_str() == text)
+}
+
+// What a placeholder stands for, of which a level of the topic is one.
 #[derive(Clone, Copy)]
 enum Kind {
     Level,
@@ -53,7 +60,7 @@ fn placeholder(kind: Kind, hidden: bool) -> &'static str {
 
 // The level, or what it stands for.
 fn shown_level<'a>(difference: &Difference, place: usize, level: &'a str) -> &'a str {
-    if !is_made_up(difference, level) {
+    if !is_placeholder(difference, level) {
         return level;
     }
     let kind = kind_of(difference, level);
@@ -63,7 +70,7 @@ fn shown_level<'a>(difference: &Difference, place: usize, level: &'a str) -> &'a
 /// Adds the client id where it stands for itself alone.
 pub fn add_client_id(text: &mut String, difference: &Difference) -> Result<(), AllocError> {
     let client = difference.client.as_str();
-    if is_made_up(difference, client) {
+    if is_placeholder(difference, client) {
         return Ok(());
     }
     write!(text, "  client id: {client:?}")

@@ -1,7 +1,7 @@
 //! How many publishes of a script that is about which is shown.
 use crate::json::Datum;
 use mq_acl::{Owner, Row};
-use mq_findings::Reason;
+use mq_differences::Reason;
 use mq_topic::LevelText;
 use mq_traffic::{Publishes, TopicPattern, Traffic};
 use std::alloc::{AllocError, Global};

@@ -1,6 +1,6 @@
 //! What isn't allowed, by whom it isn't.
 use crate::words::access_word;
-use mq_findings::{Class, Difference};
+use mq_differences::{Class, Difference};
 use std::alloc::{AllocError, Global};
 use std::collections::BTreeMap;
 

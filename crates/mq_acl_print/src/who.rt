@@ -1,6 +1,6 @@
 //! Whom differences concern.
-use crate::made_up::is_made_up;
-use mq_findings::{Class, Difference, Group};
+use crate::placeholders::is_placeholder;
+use mq_differences::{Class, Difference, Group};
 use std::alloc::{AllocError, Global};
 
 /// How many user names are shown in a row.
@@ -13,7 +13,7 @@ fn has_anonymous(all: &[&Difference]) -> bool {
 // Whether it is of all user names that no line is for: the one that it shows stands for them.
 fn is_of_others(difference: &Difference) -> bool {
     match &difference.class {
-        Class::Others(name) => is_made_up(difference, name.as_str()),
+        Class::Others(name) => is_placeholder(difference, name.as_str()),
         _ => false,
     }
 }

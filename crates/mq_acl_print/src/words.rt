@@ -1,6 +1,6 @@
 //! Words for what is asked about, in texts and in JSON.
 use mq_acl::Direction;
-use mq_findings::Way;
+use mq_differences::Way;
 
 /// Whether it is read or written.
 pub fn access_word(direction: Direction) -> &'static str {

@@ -9,14 +9,14 @@ use Rattle.mq_acl.specs.Views.{row_views}
 use Rattle.mq_acl.specs.declared.access.Direction.{Direction}
 use Rattle.mq_acl.specs.declared.row.Row.{Row}
 use Rattle.mq_acl.specs.declared.rules.Rules.{Rules}
-use Rattle.mq_findings.specs.Classes.{is_in}
-use Rattle.mq_findings.specs.Differences.{IsReal, ShowsAll}
-use Rattle.mq_findings.specs.Differences.{is_shown_of, same_direction, same_reason}
-use Rattle.mq_findings.specs.Differences.{same_start, same_way}
-use Rattle.mq_findings.specs.Reasons.{reason_of}
-use Rattle.mq_findings.specs.declared.difference.Difference.{Difference}
-use Rattle.mq_findings.specs.declared.way.Way.{Way}
-use Rattle.mq_findings.specs.declared.way.Way.TheVariants.{Gained, Lost}
+use Rattle.mq_differences.specs.Classes.{is_in}
+use Rattle.mq_differences.specs.Differences.{IsReal, ShowsAll}
+use Rattle.mq_differences.specs.Differences.{is_shown_of, same_direction, same_reason}
+use Rattle.mq_differences.specs.Differences.{same_start, same_way}
+use Rattle.mq_differences.specs.Reasons.{reason_of}
+use Rattle.mq_differences.specs.declared.difference.Difference.{Difference}
+use Rattle.mq_differences.specs.declared.way.Way.{Way}
+use Rattle.mq_differences.specs.declared.way.Way.TheVariants.{Gained, Lost}
 use Rattle.mq_who.proofs.ClaimLemmas.{found, found_none}
 use Rattle.mq_who.proofs.ExtentLemmas.{any_weaker}
 use Rattle.mq_acl_test.specs.Findings.{IsKept}

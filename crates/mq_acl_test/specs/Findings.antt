@@ -13,10 +13,10 @@ use Rattle.mq_acl.specs.declared.rules.Rules.{Rules}
 use Rattle.mq_acl.specs.declared.rules.Rules.TheVariants.{Mosquitto}
 use Rattle.mq_witness.specs.Clients.{can_be_id}
 use Rattle.mq_witness.specs.Limits.{has_short_levels}
-use Rattle.mq_findings.specs.Classes.{can_be_user}
-use Rattle.mq_findings.specs.Differences.{IsReal, is_compared}
-use Rattle.mq_findings.specs.declared.way.Way.{Way}
-use Rattle.mq_findings.specs.declared.way.Way.TheVariants.{Gained, Lost}
+use Rattle.mq_differences.specs.Classes.{can_be_user}
+use Rattle.mq_differences.specs.Differences.{IsReal, is_compared}
+use Rattle.mq_differences.specs.declared.way.Way.{Way}
+use Rattle.mq_differences.specs.declared.way.Way.TheVariants.{Gained, Lost}
 use Rattle.mq_expect.specs.Expectations.{AtLeast, AtMost, Claim, Claims, Entry}
 use Rattle.mq_expect.specs.declared.fault.ExpectationKind.{ExpectationKind}
 use Rattle.mq_who.specs.Claims.{IsJudgement}

@@ -1,7 +1,7 @@
 //! Whether a list allows at most what another one does, or at least that.
 ghost use Rattle.std.specs.Prelude.{◌≡◌, ℕ, IfOk, IfErr, find};
-ghost use Rattle.mq_findings.specs.Differences.{same_way};
-ghost use Rattle.mq_findings.specs.Faults.{IsComparisonFault};
+ghost use Rattle.mq_differences.specs.Differences.{same_way};
+ghost use Rattle.mq_differences.specs.Faults.{IsComparisonFault};
 ghost use Rattle.mq_acl_test.specs.Faults.{IsBoundFault};
 ghost use Rattle.mq_acl_test.specs.Findings.{IsBound};
 
@@ -9,7 +9,7 @@ use crate::fault::TestFault;
 use crate::finding::Finding;
 use crate::list::Listed;
 use mq_acl::Rules;
-use mq_findings::{ComparisonFault, Difference, Side, Way, compare};
+use mq_differences::{ComparisonFault, Difference, Side, Way, compare};
 use std::alloc::Global;
 
 // The first of this way.

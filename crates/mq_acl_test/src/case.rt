@@ -3,8 +3,8 @@ use crate::finding::Finding;
 use crate::list::ReadList;
 use crate::verdicts::Verdict;
 use mq_acl_print::{Line, ListText};
+use mq_differences::{Difference, Reason};
 use mq_expect::Expectation;
-use mq_findings::{Difference, Reason};
 
 /// A client and a topic, with what decides in each list.
 #[derive(Clone, Copy, Drop)]

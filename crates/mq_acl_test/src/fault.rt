@@ -1,7 +1,7 @@
 use std::alloc::AllocError;
 
 /// Why nothing is said of the lines of a file of expectations.
-#[derive(Clone, Copy, Debug, Drop, PartialEq, Eq)]
+#[derive(Clone, Copy, Drop, PartialEq, Eq)]
 pub enum TestFault<'a> {
     /// There was no memory.
     Memory,

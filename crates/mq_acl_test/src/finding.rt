@@ -3,11 +3,11 @@ ghost use Rattle.std.specs.Prelude.{◌≡◌};
 ghost use Rattle.mq_acl_test.specs.Findings.{is_holds};
 
 use mq_acl::Direction;
+use mq_differences::Difference;
 use mq_expect::ExpectationKind;
-use mq_findings::Difference;
 
 /// What comes of a line of a file of expectations.
-#[derive(Debug, Drop)]
+#[derive(Drop)]
 pub enum Finding<'a> {
     /// It holds, for each client and topic that is asked about. By mosquitto's rules clients whose
     /// id or user name holds `/`, `+` or `#` aren't asked about: of no claim, and of no list that

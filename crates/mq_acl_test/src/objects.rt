@@ -31,7 +31,7 @@ struct Shown<'v> {
     client: Option<&'v str>,
     user: Option<&'v str>,
     topic: Option<&'v str>,
-    made_up: &'v [String],
+    placeholders: &'v [String],
     decided: Option<Line<'v>>,
     other: Option<Line<'v>>,
 }
@@ -42,7 +42,7 @@ fn nothing<'v>() -> Shown<'v> {
         client: None,
         user: None,
         topic: None,
-        made_up: &[],
+        placeholders: &[],
         decided: None,
         other: None,
     }
@@ -62,7 +62,7 @@ fn shown_in<'v>(case: Case<'v>) -> Shown<'v> {
         client: Some(shown.client.as_str()),
         user: shown.class.user(),
         topic: Some(shown.topic.text()),
-        made_up: &shown.made_up,
+        placeholders: &shown.placeholders,
         decided: case.decided.line(),
         other: match case.other {
             Some(other) => other.line(),
@@ -100,7 +100,7 @@ fn add_one<'v>(
             ("line", Datum::Number(number)),
             ("list", Datum::TextIf(verdict.asked.list)),
             ("other", Datum::LineIf(shown.other)),
-            ("placeholders", Datum::Texts(shown.made_up)),
+            ("placeholders", Datum::Texts(shown.placeholders)),
             ("text", Datum::Text(expectations.line(number))),
             ("topic", Datum::TextIf(shown.topic)),
             ("user", Datum::TextIf(shown.user)),

@@ -16,8 +16,8 @@ use crate::fault::TestFault;
 use crate::finding::Finding;
 use crate::list::{Listed, ReadList, list_in};
 use mq_acl::Rules;
+use mq_differences::Way;
 use mq_expect::{Claim, Expectation};
-use mq_findings::Way;
 use mq_who::{Judgement, WhoFault, judge_claim};
 use std::alloc::Global;
 

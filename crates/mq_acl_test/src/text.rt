@@ -7,7 +7,7 @@ use crate::verdicts::{Verdict, holding};
 use crate::words::finding_words;
 use mq_acl::{Direction, Rules};
 use mq_acl_print::{Lines, ListText, lines_of, shown_topic, who_text};
-use mq_findings::Difference;
+use mq_differences::Difference;
 use std::alloc::{AllocError, Global};
 
 fn access_words(direction: Direction, may: bool) -> &'static str {

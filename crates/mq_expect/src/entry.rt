@@ -1,4 +1,12 @@
 //! What a line says.
+//!
+//! ```text
+//! acl current.acl
+//! guest   may not read   secret/#
+//! anyone  may not write  cmd/+/set   except scada, ops
+//! dash    may some read  plant/#
+//! at most baseline.acl
+//! ```
 ghost use Rattle.std.specs.Prelude.{◌≡◌, ◌⊎◌, MatchResult, IfOk, IfErr, IsTrue, false, Ok, Err};
 ghost use Rattle.std.specs.Option.{option_copied, option_map};
 ghost use Rattle.mq_topic.specs.Texts.{is_shared};
@@ -11,8 +19,7 @@ ghost use Rattle.mq_expect.specs.Views.{Answers, whom_view};
 
 use crate::expectation::{Claim, Expectation, Holds, Whom};
 use crate::fault::ExpectationKind;
-use crate::words::{split_word, trimmed};
-use mq_acl::{Access, has_whole_marks};
+use mq_acl::{Access, has_whole_marks, split_word, trimmed};
 use mq_topic::{TopicFault, TopicFilter};
 use std::alloc::Global;
 

@@ -6,7 +6,7 @@ ghost use Rattle.mq_expect.specs.Views.{whom_view};
 
 use crate::entry::whom_of;
 use crate::expectation::{Claim, Whom};
-use crate::words::trimmed;
+use mq_acl::trimmed;
 use std::alloc::{AllocError, Global};
 
 // Those that are named between commas.

@@ -3,7 +3,7 @@ use mq_acl::Access;
 use mq_topic::TopicFilter;
 
 /// Clients of which something is expected.
-#[derive(Clone, Copy, Debug, Drop, PartialEq, Eq)]
+#[derive(Clone, Copy, Drop, PartialEq, Eq)]
 pub enum Whom<'a> {
     /// `anyone`: all clients.
     Anyone,
@@ -16,7 +16,7 @@ pub enum Whom<'a> {
 }
 
 /// How much of what a filter matches is expected to be allowed.
-#[derive(Clone, Copy, Debug, PartialEq, Eq)]
+#[derive(Clone, Copy, PartialEq, Eq)]
 pub enum Holds {
     /// `may`: every topic.
     Every,
@@ -27,7 +27,7 @@ pub enum Holds {
 }
 
 /// What some clients may, or may not.
-#[derive(Debug, Drop)]
+#[derive(Drop)]
 pub struct Claim<'a> {
     /// Of which clients.
     pub whom: Whom<'a>,
@@ -42,7 +42,7 @@ pub struct Claim<'a> {
 }
 
 /// What a line says.
-#[derive(Debug, Drop)]
+#[derive(Drop)]
 pub enum Expectation<'a> {
     /// `acl FILE`: the list of which the lines behind it speak.
     List(&'a str),
@@ -55,7 +55,7 @@ pub enum Expectation<'a> {
 }
 
 /// A line that says something.
-#[derive(Debug, Drop)]
+#[derive(Drop)]
 pub struct Numbered<'a> {
     /// Its number, from 1.
     pub line: u64,

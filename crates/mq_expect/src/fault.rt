@@ -1,5 +1,5 @@
 /// What is wrong with a line of a file of expectations.
-#[derive(Clone, Copy, Debug, PartialEq, Eq)]
+#[derive(Clone, Copy, PartialEq, Eq)]
 pub enum ExpectationKind {
     /// `may` isn't its second word, and it begins neither with `acl` nor with `at most` or `at least`.
     Keyword,

@@ -6,7 +6,6 @@ mod excepted;
 mod expectation;
 mod fault;
 mod read;
-mod words;
 
 pub use expectation::{Claim, Expectation, Holds, Numbered, Whom};
 pub use fault::ExpectationKind;

@@ -1,4 +1,10 @@
 //! The lines that answer a line. Their objects are used again from line to line.
+//!
+//! ```text
+//! {"client":"a","line":3,"payload":"x","qos":1,"retain":false,"topic":"a"}   a copy
+//! {"line":3,"reason":0}                                                      the closing line
+//! {"code":11,"line":4,"refused":"NotAuthorized"}                             a refusal
+//! ```
 ghost use Rattle.std.specs.Prelude.{◌≡◌, ◌++◌, ℕ, List, Bool, false, is_some, OnOk, OnErr};
 ghost use Rattle.std.specs.Option.{option_map};
 ghost use Rattle.serde_json.specs.Data.{no_members};

@@ -1,4 +1,10 @@
 //! From a line to a command.
+//!
+//! ```text
+//! {"do":"subscribe","client":"a","filter":"a/#","qos":1}     a command
+//! {"do":"subscribe","client":"a"}                            faulty: it has no filter
+//! {"do":"subscribe","client":"a","filter":"a","fliter":"b"}  faulty: an unknown field
+//! ```
 ghost use Rattle.std.specs.Prelude.{◌≡◌, IfOk, IfSome, IsTrue, option_map};
 ghost use Rattle.serde_json.specs.Data.{object};
 ghost use Rattle.serde_json.specs.View.{view, members_view};

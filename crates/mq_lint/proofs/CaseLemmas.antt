@@ -23,13 +23,13 @@ use Rattle.mq_witness.specs.declared.witness.Witness.{Witness}
 use Rattle.mq_witness.specs.Rows.{lent_rows}
 use Rattle.mq_witness.specs.Ruled.{FindsNoneBy, IsAskedOf, ShowsBy, decides_by}
 use Rattle.mq_witness.specs.declared.clients.Clients.{Clients}
-use Rattle.mq_findings.specs.ByOwner.{is_own}
-use Rattle.mq_findings.proofs.FirstLemmas.{All-unmap}
-use Rattle.mq_findings.specs.Classes.{can_be_user}
-use Rattle.mq_findings.specs.Questions.{IsPoint}
-use Rattle.mq_findings.specs.Ranks.{is_judge, rank, rank_of}
-use Rattle.mq_findings.proofs.DeciderLemmas.{some_at}
-use Rattle.mq_findings.proofs.PointLemmas.{client_user}
+use Rattle.mq_differences.specs.ByOwner.{is_own}
+use Rattle.mq_differences.proofs.FirstLemmas.{All-unmap}
+use Rattle.mq_differences.specs.Classes.{can_be_user}
+use Rattle.mq_differences.specs.Questions.{IsPoint}
+use Rattle.mq_differences.specs.Ranks.{is_judge, rank, rank_of}
+use Rattle.mq_differences.proofs.DeciderLemmas.{some_at}
+use Rattle.mq_differences.proofs.PointLemmas.{client_user}
 use Rattle.mq_lint.specs.Needless.{is_asked, same_row, without}
 use Rattle.mq_lint.specs.Cases.{CanAsk, Finds, FindsNone, GrantsAlone, GrantsNone, IsNeeded}
 use Rattle.mq_lint.specs.Cases.{IsNeedlessIn, IsNeedlessTo, NoneAt, Precedes, before, has_row}

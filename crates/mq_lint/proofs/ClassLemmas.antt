@@ -22,12 +22,12 @@ use Rattle.mq_witness.specs.Literals.{is_among}
 use Rattle.mq_witness.specs.Rows.{all_rows, is_name_of, is_user_of}
 use Rattle.mq_witness.specs.declared.clients.Clients.{Clients}
 use Rattle.mq_witness.specs.declared.clients.Clients.TheVariants.{Anonymous, Named, Others}
-use Rattle.mq_findings.specs.ByOwner.{is_own}
-use Rattle.mq_findings.specs.Classes.{can_be_user}
-use Rattle.mq_findings.specs.Marks.{views_of}
-use Rattle.mq_findings.specs.Questions.{IsList}
-use Rattle.mq_findings.specs.declared.by_owner.ByOwner.{ByOwner}
-use Rattle.mq_findings.specs.declared.marks.Marked.{Marked}
+use Rattle.mq_differences.specs.ByOwner.{is_own}
+use Rattle.mq_differences.specs.Classes.{can_be_user}
+use Rattle.mq_differences.specs.Marks.{views_of}
+use Rattle.mq_differences.specs.Questions.{IsList}
+use Rattle.mq_differences.specs.declared.by_owner.ByOwner.{ByOwner}
+use Rattle.mq_differences.specs.declared.marks.Marked.{Marked}
 use Rattle.mq_lint.specs.Cases.{AreClasses, IsLint, has_row}
 use Rattle.mq_lint.proofs.SameLemmas.{has_any}
 

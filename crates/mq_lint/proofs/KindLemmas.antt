@@ -4,7 +4,7 @@ use Rattle.std.proofs.Common.{◌++◌, Option, Contains, length, get_or, ltb, r
 use Rattle.std.proofs.Common.{◌∙◌, subst, arith, length-append}
 use Rattle.std.proofs.lemmas.Bool.{ltb-true, ltb-false}
 use Rattle.std.proofs.lemmas.List.Elements.{All-contains_itself}
-use Rattle.mq_findings.proofs.FirstLemmas.{All-unmap}
+use Rattle.mq_differences.proofs.FirstLemmas.{All-unmap}
 use Rattle.mq_acl.specs.Views.{line_views}
 use Rattle.mq_acl.specs.declared.row.Row.{Row}
 use Rattle.mq_acl.specs.declared.rules.Rules.{Rules}

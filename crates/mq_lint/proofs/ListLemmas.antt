@@ -15,10 +15,10 @@ use Rattle.mq_witness.specs.Asked.{AskedRows, is_client_of}
 use Rattle.mq_witness.specs.Clients.{can_be_id}
 use Rattle.mq_witness.specs.Ruled.{are_asked_of, decides_by}
 use Rattle.mq_witness.specs.declared.clients.Clients.{Clients}
-use Rattle.mq_findings.specs.ByOwner.{is_for}
-use Rattle.mq_findings.specs.Classes.{can_be_user}
-use Rattle.mq_findings.proofs.FirstLemmas.{All-unmap, IsFirst, first_place}
-use Rattle.mq_findings.proofs.PointLemmas.{concerned_applies}
+use Rattle.mq_differences.specs.ByOwner.{is_for}
+use Rattle.mq_differences.specs.Classes.{can_be_user}
+use Rattle.mq_differences.proofs.FirstLemmas.{All-unmap, IsFirst, first_place}
+use Rattle.mq_differences.proofs.PointLemmas.{concerned_applies}
 use Rattle.mq_lint.specs.Needless.{AllowSame, DeniesNone, Meet, is_asked, same_row, without}
 use Rattle.mq_lint.specs.Cases.{AreClasses, Finds, FindsNone, IsNeedlessTo, MeetsGrant, NoneMeets}
 use Rattle.mq_lint.specs.Cases.{has_row, others_of, permits}

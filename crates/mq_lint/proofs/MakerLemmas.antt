@@ -21,10 +21,10 @@ use Rattle.mq_acl.specs.declared.access.Direction.TheVariants.{Reading, Writing}
 use Rattle.mq_witness.specs.Asked.{AskedRows}
 use Rattle.mq_witness.specs.Ruled.{decides_by}
 use Rattle.mq_witness.specs.declared.clients.Clients.{Clients}
-use Rattle.mq_findings.specs.ByOwner.{is_for}
-use Rattle.mq_findings.specs.Classes.{can_be_user}
-use Rattle.mq_findings.specs.Ranks.{is_judge, rank, rank_of}
-use Rattle.mq_findings.proofs.PointLemmas.{client_user}
+use Rattle.mq_differences.specs.ByOwner.{is_for}
+use Rattle.mq_differences.specs.Classes.{can_be_user}
+use Rattle.mq_differences.specs.Ranks.{is_judge, rank, rank_of}
+use Rattle.mq_differences.proofs.PointLemmas.{client_user}
 use Rattle.mq_lint.specs.Needless.{MakesNeedless, MakesNone, as_grant, granted_access}
 use Rattle.mq_lint.specs.Needless.{may_make, same_row}
 use Rattle.mq_lint.specs.Cases.{AreClasses, Finds, FindsNone, covers_access, grants_as_much}

@@ -20,12 +20,12 @@ use Rattle.mq_acl.specs.declared.rules.Rules.TheVariants.{Own, Mosquitto}
 use Rattle.mq_witness.specs.Asked.{AskedRows, is_client_of}
 use Rattle.mq_witness.specs.Rows.{is_name_of}
 use Rattle.mq_witness.specs.declared.clients.Clients.{Clients}
-use Rattle.mq_findings.specs.ByOwner.{is_for, is_own}
-use Rattle.mq_findings.specs.Classes.{can_be_user}
-use Rattle.mq_findings.specs.Ranks.{is_judge, rank, rank_of}
-use Rattle.mq_findings.proofs.DeciderLemmas.{allowed_at, any_same, some_at}
-use Rattle.mq_findings.proofs.FirstLemmas.{none_at}
-use Rattle.mq_findings.proofs.PointLemmas.{applies_for, concerned_applies, user_as_it_is}
+use Rattle.mq_differences.specs.ByOwner.{is_for, is_own}
+use Rattle.mq_differences.specs.Classes.{can_be_user}
+use Rattle.mq_differences.specs.Ranks.{is_judge, rank, rank_of}
+use Rattle.mq_differences.proofs.DeciderLemmas.{allowed_at, any_same, some_at}
+use Rattle.mq_differences.proofs.FirstLemmas.{none_at}
+use Rattle.mq_differences.proofs.PointLemmas.{applies_for, concerned_applies, user_as_it_is}
 use Rattle.mq_lint.specs.Needless.{same_row, without}
 use Rattle.mq_lint.specs.Cases.{has_row, is_at, is_before, others_of}
 use Rattle.mq_lint.proofs.SameLemmas.{any_kept, any_with}

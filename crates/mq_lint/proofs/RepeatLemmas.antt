@@ -9,7 +9,7 @@ use Rattle.std.proofs.lemmas.List.Elements.{All-push}
 use Rattle.std.proofs.lemmas.List.Folds.{list_any_none}
 use Rattle.mq_acl.specs.Views.{row_view}
 use Rattle.mq_acl.specs.declared.row.Row.{Row}
-use Rattle.mq_findings.proofs.FirstLemmas.{find_none}
+use Rattle.mq_differences.proofs.FirstLemmas.{find_none}
 use Rattle.mq_lint.specs.Needless.{same_row}
 use Rattle.mq_lint.specs.Repeats.{AreSeen, row_key}
 use Rattle.mq_lint.specs.declared.repeats.Seen.{Seen}

@@ -8,8 +8,8 @@ use Rattle.std.proofs.lemmas.List.Folds.{list_any_at}
 use Rattle.mq_topic.proofs.ByteLemmas.{text_is, text_itself}
 use Rattle.mq_acl.specs.Lines.{Access, Read, Write, ReadWrite, Deny}
 use Rattle.mq_acl.specs.Rows.{Who, Anonymous, Named, Everyone, AclRow}
-use Rattle.mq_findings.specs.Marks.{same_who}
-use Rattle.mq_findings.proofs.TwinLemmas.{who_is}
+use Rattle.mq_differences.specs.Marks.{same_who}
+use Rattle.mq_differences.proofs.TwinLemmas.{who_is}
 use Rattle.mq_lint.specs.Needless.{same_access, same_row, without}
 use Rattle.mq_lint.specs.Cases.{has_row}
 

@@ -18,12 +18,12 @@ use Rattle.mq_witness.specs.Clients.{name_passes}
 use Rattle.mq_witness.specs.Rows.{is_user_of}
 use Rattle.mq_witness.specs.Ruled.{IsShownBy, decides_by}
 use Rattle.mq_witness.specs.declared.clients.Clients.{Clients}
-use Rattle.mq_findings.specs.ByOwner.{everyones, is_for, is_own, own_rows}
-use Rattle.mq_findings.specs.Classes.{can_be_user}
-use Rattle.mq_findings.specs.Marks.{views_of}
-use Rattle.mq_findings.specs.Questions.{IsPoint}
-use Rattle.mq_findings.specs.Ranks.{is_judge, rank}
-use Rattle.mq_findings.specs.declared.by_owner.ByOwner.{ByOwner}
+use Rattle.mq_differences.specs.ByOwner.{everyones, is_for, is_own, own_rows}
+use Rattle.mq_differences.specs.Classes.{can_be_user}
+use Rattle.mq_differences.specs.Marks.{views_of}
+use Rattle.mq_differences.specs.Questions.{IsPoint}
+use Rattle.mq_differences.specs.Ranks.{is_judge, rank}
+use Rattle.mq_differences.specs.declared.by_owner.ByOwner.{ByOwner}
 use Rattle.mq_lint.specs.Needless.{Differ, Meet, granted_access, same_row, without}
 
 -- ---- a question

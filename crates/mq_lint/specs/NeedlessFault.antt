@@ -4,7 +4,7 @@ use Rattle.mq_acl.specs.Views.{line_views}
 use Rattle.mq_acl.specs.declared.row.Row.{Row}
 use Rattle.mq_acl.specs.declared.rules.Rules.{Rules}
 use Rattle.mq_witness.specs.Limits.{long_line, marked_line}
-use Rattle.mq_findings.specs.Steps.{enough_steps}
+use Rattle.mq_differences.specs.Steps.{enough_steps}
 use Rattle.mq_lint.specs.declared.fault.NeedlessFault.{NeedlessFault}
 use Rattle.mq_lint.specs.declared.fault.NeedlessFault.TheVariants.{Memory, Line, Mark, GaveUp}
 

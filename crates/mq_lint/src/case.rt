@@ -4,7 +4,7 @@ ghost use Rattle.std.specs.Prelude.{Contains};
 ghost use Rattle.std.specs.List.{filter};
 ghost use Rattle.mq_acl.specs.Views.{row_view};
 ghost use Rattle.mq_witness.specs.Rows.{lent_rows};
-ghost use Rattle.mq_findings.specs.Marks.{views_of};
+ghost use Rattle.mq_differences.specs.Marks.{views_of};
 ghost use Rattle.mq_lint.specs.Needless.{without};
 ghost use Rattle.mq_lint.specs.Cases.{Finds, FindsNone, GrantsAlone, GrantsNone, IsNeeded};
 ghost use Rattle.mq_lint.specs.Cases.{IsNeedlessIn, IsNeedlessTo, MeetsGrant, NoneAt, NoneMeets};
@@ -14,7 +14,7 @@ use crate::fault::NeedlessFault;
 use crate::question::Question;
 use crate::same::same_row;
 use mq_acl::{Direction, Row, Rules, is_deny};
-use mq_findings::{Marked, Steps, is_judge, rank};
+use mq_differences::{Marked, Steps, is_judge, rank};
 use std::alloc::{AllocError, Global};
 
 // So many rows are gathered in the time of one look at a row.

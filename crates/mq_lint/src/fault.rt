@@ -1,7 +1,7 @@
 use std::alloc::AllocError;
 
 /// Why the needless lines of a list aren't known.
-#[derive(Clone, Copy, Debug, PartialEq, Eq)]
+#[derive(Clone, Copy, PartialEq, Eq)]
 pub enum NeedlessFault {
     /// There was no memory.
     Memory,

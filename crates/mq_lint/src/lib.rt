@@ -1,4 +1,11 @@
 //! What is said of the lines of one access list: what is odd, and which lines it doesn't need.
+//!
+//! ```text
+//! topic read plant/#
+//! topic read plant/#           repeats line 1
+//! topic read plant/+/state     changes nothing: line 1 allows the same
+//! topic deny lab/#             denies nothing that a line grants
+//! ```
 #![tactic(auto)]
 
 mod blanks;

@@ -10,7 +10,7 @@ use crate::case::{Case, add_others};
 use crate::fault::NeedlessFault;
 use crate::question::Question;
 use mq_acl::{Owner, Row, Rules};
-use mq_findings::{ByOwner, enough_steps};
+use mq_differences::{ByOwner, enough_steps};
 use mq_witness::{Asked, Clients, ListFault};
 use std::alloc::{AllocError, Global};
 
@@ -60,7 +60,7 @@ fn all_classes<'a>(alloc: Global, users: &[&'a str]) -> Result<Vec<Clients<'a>>,
 }
 
 impl<'a> Lint<'a> {
-    ghost use Rattle.mq_findings.specs.Steps.{enough_steps};
+    ghost use Rattle.mq_differences.specs.Steps.{enough_steps};
     ghost use Rattle.mq_lint.specs.NeedlessFault.{IsNeedlessFault};
 
     /// A list. One with a level or a user name of more than 300 bytes is named by its line; by

@@ -5,7 +5,7 @@ ghost use Rattle.std.specs.Option.{option_copied};
 ghost use Rattle.mq_acl.specs.Access.{is_deny, grants};
 ghost use Rattle.mq_acl.specs.Views.{access_view, owner_view, row_view};
 ghost use Rattle.mq_witness.specs.Rows.{lent_rows};
-ghost use Rattle.mq_findings.specs.ByOwner.{is_for};
+ghost use Rattle.mq_differences.specs.ByOwner.{is_for};
 ghost use Rattle.mq_lint.specs.Needless.{IsBy, MakesNeedless, granted_access, may_make};
 ghost use Rattle.mq_lint.specs.NeedlessFault.{IsStop};
 ghost use Rattle.mq_lint.specs.Cases.{Finds, covers_access, grants_as_much, has_row, maker_cover};
@@ -15,7 +15,7 @@ use crate::fault::NeedlessFault;
 use crate::linted::Lint;
 use crate::same::same_row;
 use mq_acl::{Access, Direction, Owner, Row, Rules, grants, is_deny};
-use mq_findings::{Steps, rank};
+use mq_differences::{Steps, rank};
 use mq_witness::{Clients, may_overlap};
 use std::alloc::{AllocError, Global};
 

@@ -18,7 +18,7 @@ use crate::maker::maker;
 use crate::remark::{Remark, RemarkKind};
 use crate::repeats::Seen;
 use mq_acl::{Row, Rules, is_deny};
-use mq_findings::Steps;
+use mq_differences::Steps;
 use std::alloc::{AllocError, Global};
 
 // Whether the list without the row allows some clients something else.

@@ -7,7 +7,7 @@ ghost use Rattle.mq_lint.specs.Cases.{CanAsk, Finds, FindsNone};
 
 use crate::fault::NeedlessFault;
 use mq_acl::{Row, Rules};
-use mq_findings::{Steps, work_of};
+use mq_differences::{Steps, work_of};
 use mq_witness::{Asked, Clients};
 use std::alloc::{AllocError, Global};
 

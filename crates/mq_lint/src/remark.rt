@@ -1,7 +1,7 @@
 use mq_acl::AclKind;
 
 /// What is odd about a line of an access list.
-#[derive(Clone, Copy, Debug, PartialEq, Eq)]
+#[derive(Clone, Copy, PartialEq, Eq)]
 pub enum RemarkKind {
     /// The line is faulty.
     Fault(AclKind),
@@ -22,7 +22,7 @@ pub enum RemarkKind {
 }
 
 /// A remark on a line of an access list.
-#[derive(Clone, Copy, Debug, PartialEq, Eq)]
+#[derive(Clone, Copy, PartialEq, Eq)]
 pub struct Remark {
     /// The number of the line, from 1.
     pub line: u64,

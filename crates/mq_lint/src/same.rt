@@ -5,7 +5,7 @@ ghost use Rattle.mq_acl.specs.Views.{access_view, row_view};
 ghost use Rattle.mq_lint.specs.Needless.{same_access, same_row};
 
 use mq_acl::{Access, Row};
-use mq_findings::same_owner;
+use mq_differences::same_owner;
 
 fn same_access(left: Access, right: Access) -> bool
     ensures { result ≡ same_access (access_view left) (access_view right) }

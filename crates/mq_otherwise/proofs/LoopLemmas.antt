@@ -8,7 +8,7 @@ use Rattle.mq_acl.specs.Rows.{AclRow}
 use Rattle.mq_acl.specs.Views.{row_view}
 use Rattle.mq_acl.specs.declared.row.Row.{Row}
 use Rattle.mq_witness.specs.Rows.{lent_rows}
-use Rattle.mq_findings.proofs.FirstLemmas.{All-unmap}
+use Rattle.mq_differences.proofs.FirstLemmas.{All-unmap}
 
 -- one more of the first
 pub all_more : {X : Type 0} (P : X → Type 0) (xs : List X) (n : ℕ) (x : X) → n < length xs

@@ -16,8 +16,8 @@ use Rattle.mq_witness.specs.Asked.{AskedRows, is_client_of}
 use Rattle.mq_witness.specs.Ruled.{has_patterns, has_whole_marks}
 use Rattle.mq_witness.specs.declared.clients.Clients.{Clients}
 use Rattle.mq_witness.specs.declared.clients.Clients.TheVariants as clients
-use Rattle.mq_findings.specs.Classes.{can_be_user}
-use Rattle.mq_findings.specs.Questions.{IsPoint}
+use Rattle.mq_differences.specs.Classes.{can_be_user}
+use Rattle.mq_differences.specs.Questions.{IsPoint}
 use Rattle.mq_otherwise.specs.Answers.{DecideAllSame, IsAsked}
 use Rattle.mq_otherwise.specs.Parts.{is_part}
 use Rattle.mq_otherwise.proofs.RuleLemmas.{by_mosquitto, by_own, mosquitto_is, own_is, pattern}
@@ -59,7 +59,11 @@ own_same false false p q r s ep eq er es = rw (ep, eq, er, es) refl
 pub same_without : (rows : List Row) → has_patterns (row_views rows) ≡ false
     → DecideAllSame (row_views rows)
 same_without rows none client topic user direction f u a v =
-    let asked : AskedRows = record { rules = Mosquitto; rows = row_views rows; made_up = [] } in
+    let asked : AskedRows = record {
+      rules = Mosquitto;
+      rows = row_views rows;
+      placeholders = [];
+    } in
     let c = class_with user in
     let is : IsAsked rows asked = record {
       rules = refl;

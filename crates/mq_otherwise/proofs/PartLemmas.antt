@@ -13,11 +13,11 @@ use Rattle.mq_witness.specs.Asked.{AskedRows}
 use Rattle.mq_witness.specs.Rows.{all_rows}
 use Rattle.mq_witness.specs.Ruled.{has_whole_marks}
 use Rattle.mq_witness.specs.declared.clients.Clients.{Clients}
-use Rattle.mq_findings.specs.ByOwner.{is_own}
-use Rattle.mq_findings.specs.Marks.{views_of}
-use Rattle.mq_findings.specs.Questions.{IsList as IsListOfRows}
-use Rattle.mq_findings.specs.declared.by_owner.ByOwner.{ByOwner}
-use Rattle.mq_findings.specs.declared.marks.Marked.{Marked}
+use Rattle.mq_differences.specs.ByOwner.{is_own}
+use Rattle.mq_differences.specs.Marks.{views_of}
+use Rattle.mq_differences.specs.Questions.{IsList as IsListOfRows}
+use Rattle.mq_differences.specs.declared.by_owner.ByOwner.{ByOwner}
+use Rattle.mq_differences.specs.declared.marks.Marked.{Marked}
 use Rattle.mq_otherwise.specs.Answers.{IsList}
 use Rattle.mq_otherwise.specs.Parts.{first_rows, is_part, other_rows, own_part, pattern_part}
 

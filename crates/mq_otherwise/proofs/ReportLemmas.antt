@@ -17,12 +17,12 @@ use Rattle.mq_witness.specs.Rows.{is_user_of}
 use Rattle.mq_witness.specs.Ruled.{are_asked_of}
 use Rattle.mq_witness.specs.declared.clients.Clients.{Clients}
 use Rattle.mq_witness.specs.declared.clients.Clients.TheVariants as clients
-use Rattle.mq_findings.specs.Classes.{can_be_user, user_of}
-use Rattle.mq_findings.specs.Questions.{IsPoint}
-use Rattle.mq_findings.specs.Reasons.{reason_of}
-use Rattle.mq_findings.specs.Steps.{enough_steps}
-use Rattle.mq_findings.proofs.FirstLemmas.{first_place}
-use Rattle.mq_findings.proofs.PointLemmas.{client_user}
+use Rattle.mq_differences.specs.Classes.{can_be_user, user_of}
+use Rattle.mq_differences.specs.Questions.{IsPoint}
+use Rattle.mq_differences.specs.Reasons.{reason_of}
+use Rattle.mq_differences.specs.Steps.{enough_steps}
+use Rattle.mq_differences.proofs.FirstLemmas.{first_place}
+use Rattle.mq_differences.proofs.PointLemmas.{client_user}
 use Rattle.mq_otherwise.specs.Answers.{DecideAllSame, DecideOtherwise, DecideSame, DecideSameFor}
 use Rattle.mq_otherwise.specs.Answers.{DecideSameIn}
 use Rattle.mq_otherwise.specs.Answers.{DecideSameOf, Grows, IsAsked, IsCase, IsReal}

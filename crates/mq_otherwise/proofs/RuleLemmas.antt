@@ -22,14 +22,14 @@ use Rattle.mq_witness.specs.Ruled.{is_asked_of}
 use Rattle.mq_witness.specs.declared.clients.Clients.{Clients}
 use Rattle.mq_witness.proofs.RuledLemmas.{is_same_for, rows_same}
 use Rattle.mq_topic.specs.Levels.{levels}
-use Rattle.mq_findings.specs.ByOwner.{is_for, is_own}
-use Rattle.mq_findings.specs.Questions.{IsPoint}
-use Rattle.mq_findings.specs.Ranks.{is_judge, rank}
-use Rattle.mq_findings.proofs.ByOwnerLemmas.{own_apart}
-use Rattle.mq_findings.proofs.DeciderLemmas.{allowed_at, ranks, some_at}
-use Rattle.mq_findings.proofs.FirstLemmas.{first_place}
-use Rattle.mq_findings.proofs.GainLemmas.{decided_parts, none_in, none_of}
-use Rattle.mq_findings.proofs.PointLemmas.{client_user, concerned_for, user_as_it_is}
+use Rattle.mq_differences.specs.ByOwner.{is_for, is_own}
+use Rattle.mq_differences.specs.Questions.{IsPoint}
+use Rattle.mq_differences.specs.Ranks.{is_judge, rank}
+use Rattle.mq_differences.proofs.ByOwnerLemmas.{own_apart}
+use Rattle.mq_differences.proofs.DeciderLemmas.{allowed_at, ranks, some_at}
+use Rattle.mq_differences.proofs.FirstLemmas.{first_place}
+use Rattle.mq_differences.proofs.GainLemmas.{decided_parts, none_in, none_of}
+use Rattle.mq_differences.proofs.PointLemmas.{client_user, concerned_for, user_as_it_is}
 use Rattle.mq_otherwise.specs.Answers.{DecideOtherwise, DecideSame, DecideSameOf}
 use Rattle.mq_otherwise.specs.Answers.{DifferAlone, DifferPairs, IsAsked, NoneAlone, NonePairs}
 use Rattle.mq_otherwise.specs.Parts.{does, first_rows, is_aside, is_part, other_rows, own_part}

@@ -16,12 +16,12 @@ use Rattle.mq_witness.specs.Clients.{can_be_id, name_passes}
 use Rattle.mq_witness.specs.Rows.{is_user_of}
 use Rattle.mq_witness.specs.Ruled.{FindsNoneBy, are_asked_of, decides_by, has_whole_marks}
 use Rattle.mq_witness.specs.declared.clients.Clients.{Clients}
-use Rattle.mq_findings.specs.ByOwner.{everyones, is_own, own_rows}
-use Rattle.mq_findings.specs.Classes.{can_be_user, user_of}
-use Rattle.mq_findings.specs.Marks.{views_of}
-use Rattle.mq_findings.specs.Questions.{IsPoint}
-use Rattle.mq_findings.specs.Reasons.{reason_of}
-use Rattle.mq_findings.specs.declared.by_owner.ByOwner.{ByOwner}
+use Rattle.mq_differences.specs.ByOwner.{everyones, is_own, own_rows}
+use Rattle.mq_differences.specs.Classes.{can_be_user, user_of}
+use Rattle.mq_differences.specs.Marks.{views_of}
+use Rattle.mq_differences.specs.Questions.{IsPoint}
+use Rattle.mq_differences.specs.Reasons.{reason_of}
+use Rattle.mq_differences.specs.declared.by_owner.ByOwner.{ByOwner}
 use Rattle.mq_otherwise.specs.declared.otherwise.Otherwise.{Otherwise}
 
 -- ---- one client and topic

@@ -3,7 +3,7 @@ use Rattle.std.specs.Prelude.{◌≡◌, ◌<◌, ℕ, Bool, true, List, ⊤, So
 use Rattle.mq_acl.specs.declared.row.Row.{Row}
 use Rattle.mq_acl.specs.declared.rules.Rules.TheVariants as rules
 use Rattle.mq_witness.specs.Limits.{long_line, marked_line}
-use Rattle.mq_findings.specs.Steps.{enough_steps}
+use Rattle.mq_differences.specs.Steps.{enough_steps}
 use Rattle.mq_otherwise.specs.declared.fault.OtherwiseFault.{OtherwiseFault}
 use Rattle.mq_otherwise.specs.declared.fault.OtherwiseFault.TheVariants.{Memory, Line, Mark, GaveUp}
 

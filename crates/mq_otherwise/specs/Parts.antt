@@ -9,7 +9,7 @@ use Rattle.mq_witness.specs.Decided.{begins_with_mark}
 use Rattle.mq_witness.specs.Roots.{same}
 use Rattle.mq_witness.specs.Rows.{lent_rows}
 use Rattle.mq_witness.specs.declared.clients.Clients.{Clients}
-use Rattle.mq_findings.specs.ByOwner.{is_own}
+use Rattle.mq_differences.specs.ByOwner.{is_own}
 use Rattle.mq_otherwise.specs.declared.parts.Parts.{Parts}
 
 -- by our own rules the row covers no topic that begins with `$`; by mosquitto's it may, with a text in the place of its

@@ -7,7 +7,7 @@ ghost use Rattle.mq_acl.specs.declared.rules.Rules.TheVariants as rules;
 ghost use Rattle.mq_witness.specs.Clients.{can_be_id, name_passes};
 ghost use Rattle.mq_witness.specs.Rows.{is_user_of};
 ghost use Rattle.mq_witness.specs.Ruled.{are_asked_of};
-ghost use Rattle.mq_findings.specs.Classes.{can_be_user};
+ghost use Rattle.mq_differences.specs.Classes.{can_be_user};
 ghost use Rattle.mq_otherwise.specs.Answers.{DecideAllSame, DecideSameFor, DecideSameIn};
 ghost use Rattle.mq_otherwise.specs.Answers.{DecideSameOf, Grows, IsReal};
 ghost use Rattle.mq_otherwise.specs.Faults.{IsOtherwiseFault, IsStop};

@@ -1,7 +1,7 @@
 use std::alloc::AllocError;
 
 /// Why it isn't known where the rules decide otherwise.
-#[derive(Clone, Copy, Debug, PartialEq, Eq)]
+#[derive(Clone, Copy, PartialEq, Eq)]
 pub enum OtherwiseFault {
     /// There was no memory.
     Memory,

@@ -1,12 +1,12 @@
 //! A list that can be asked by mosquitto's rules.
 ghost use Rattle.std.specs.Prelude.{◌≡◌, ◌<◌, ◌∷◌, [], IfOk, IfErr, true, length};
-ghost use Rattle.mq_findings.specs.Steps.{enough_steps};
+ghost use Rattle.mq_differences.specs.Steps.{enough_steps};
 ghost use Rattle.mq_otherwise.specs.Answers.{IsList};
 ghost use Rattle.mq_otherwise.specs.Faults.{IsOtherwiseFault};
 
 use crate::fault::OtherwiseFault;
 use mq_acl::{Row, Rules};
-use mq_findings::{ByOwner, enough_steps};
+use mq_differences::{ByOwner, enough_steps};
 use mq_witness::{Asked, Clients, ListFault};
 use std::alloc::{AllocError, Global};
 

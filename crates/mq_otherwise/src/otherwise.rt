@@ -1,9 +1,8 @@
 use mq_acl::Direction;
-use mq_findings::{Class, Reason};
+use mq_differences::{Class, Reason};
 use mq_topic::TopicName;
 
 /// Where mosquitto's rules decide otherwise than our own.
-#[derive(Debug)]
 pub struct Otherwise {
     /// Which clients it is about.
     pub class: Class,

@@ -4,13 +4,13 @@ ghost use Rattle.std.specs.List.{filter};
 ghost use Rattle.mq_acl.specs.RowsByOwner.{is_everyones};
 ghost use Rattle.mq_acl.specs.Views.{row_view};
 ghost use Rattle.mq_witness.specs.Rows.{lent_rows};
-ghost use Rattle.mq_findings.specs.Marks.{views_of};
-ghost use Rattle.mq_findings.specs.ByOwner.{is_own};
+ghost use Rattle.mq_differences.specs.Marks.{views_of};
+ghost use Rattle.mq_differences.specs.ByOwner.{is_own};
 ghost use Rattle.mq_otherwise.specs.Parts.{AreParts, does, is_aside, is_part};
 
 use crate::list::AskedList;
 use mq_acl::{Direction, Row, grants, is_deny};
-use mq_findings::Marked;
+use mq_differences::Marked;
 use mq_witness::{Clients, begins_with_mark};
 use std::alloc::{AllocError, Global};
 

@@ -5,7 +5,7 @@ ghost use Rattle.mq_acl.specs.Views.{row_view};
 ghost use Rattle.mq_witness.specs.Asked.{user_view};
 ghost use Rattle.mq_witness.specs.Rows.{lent_rows};
 ghost use Rattle.mq_witness.specs.Ruled.{FindsNoneBy};
-ghost use Rattle.mq_findings.specs.Questions.{IsPoint};
+ghost use Rattle.mq_differences.specs.Questions.{IsPoint};
 ghost use Rattle.mq_otherwise.specs.Answers.{DecideOtherwise, DecideSameOf, Differ, DifferAlone};
 ghost use Rattle.mq_otherwise.specs.Answers.{DifferPairs, DifferWith, IsQuestion, IsReal};
 ghost use Rattle.mq_otherwise.specs.Answers.{NoneAlone, NonePairs, NoneWith};
@@ -16,7 +16,7 @@ use crate::fault::OtherwiseFault;
 use crate::otherwise::Otherwise;
 use crate::parts::Parts;
 use mq_acl::{Direction, Row, Rules};
-use mq_findings::{Steps, class_of, why, work_of};
+use mq_differences::{Steps, class_of, why, work_of};
 use mq_witness::{Asked, Clients, Witness};
 use std::alloc::{AllocError, Global};
 

@@ -2,7 +2,7 @@
 ghost use Rattle.std.specs.Prelude.{◌≡◌, ◌++◌, ◌∷◌, [], OnOk};
 
 use crate::otherwise::Otherwise;
-use mq_findings::Steps;
+use mq_differences::Steps;
 use std::alloc::{AllocError, Global};
 
 /// What is found so far, and the steps that are left.

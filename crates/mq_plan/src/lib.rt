@@ -12,7 +12,6 @@ mod plan;
 mod read;
 mod rule;
 mod side;
-mod words;
 
 pub use fault::{PlanFault, PlanKind, Side};
 pub use line::{Entry, entry_of};

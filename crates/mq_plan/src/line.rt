@@ -1,4 +1,13 @@
 //! What a line says.
+//!
+//! ```text
+//! plant/+hall/energy -> site/a/+hall/meters/energy     a rule: its sides
+//! keep plant/notice                                    these topics keep their names
+//! none plant/#                                         these have no new name
+//! # all of it below a site                             a comment
+//! # -> site/#                                          a rule: for all topics
+//! plant/door                                           faulty: it has no arrow
+//! ```
 ghost use Rattle.std.specs.Prelude.{◌≡◌, ◌∷◌, Some, drop, slice_index, take};
 ghost use Rattle.mq_acl.specs.Lines.{lines};
 ghost use Rattle.mq_acl.specs.Views.{lines_left};
@@ -6,7 +15,7 @@ ghost use Rattle.mq_acl.specs.Words.{trimmed};
 ghost use Rattle.mq_plan.specs.Lines.{arrow_place, divided, entry_of, is_arrow, is_comment, word_entry};
 ghost use Rattle.mq_plan.specs.Views.{entry_view};
 
-use crate::words::{is_blank, split_word, trimmed};
+use mq_acl::{is_blank, split_word, trimmed};
 
 /// What a line says, its sides as they are written.
 #[derive(Clone, Copy, Drop)]

@@ -2,7 +2,7 @@ use mq_witness::LimitFault;
 use std::alloc::AllocError;
 
 /// Why it isn't known what a filter reaches. A topic name made of levels of more than 300 bytes could be too long.
-#[derive(Clone, Copy, Debug, PartialEq, Eq)]
+#[derive(Clone, Copy, PartialEq, Eq)]
 pub enum ReachFault {
     /// There was no memory.
     Memory,

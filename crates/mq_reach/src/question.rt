@@ -19,7 +19,7 @@ use mq_witness::ListFault;
 use std::alloc::{AllocError, Global};
 
 /// Why it isn't known whether a subscription can receive nothing. `Memory` may stand in place of any answer.
-#[derive(Clone, Copy, Debug, PartialEq, Eq)]
+#[derive(Clone, Copy, PartialEq, Eq)]
 pub enum SearchFault {
     /// The row of the list with this line has a level, or a user name, of more than 300 bytes.
     Row(u64),

@@ -25,7 +25,7 @@ const SCRIPT_LIMIT: u64 = 4_294_967_296;
 const PIECE: usize = 65_536;
 
 /// Why a script isn't searched to its end.
-#[derive(Debug, Drop)]
+#[derive(Drop)]
 pub enum ScriptFault {
     /// The reader failed.
     Read(io::Error),

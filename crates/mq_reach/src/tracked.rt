@@ -20,7 +20,7 @@ use std::collections::BTreeMap;
 use std::marker::Model;
 
 /// How it is with a subscription that could receive nothing as it was made.
-#[derive(Clone, Copy, Debug, PartialEq, Eq)]
+#[derive(Clone, Copy, PartialEq, Eq)]
 pub(crate) enum State {
     /// Its client's session keeps it, and it can receive nothing so far.
     Open,

@@ -2,7 +2,7 @@ use std::alloc::AllocError;
 
 /// Why a filter isn't made. With no level of more than 300 bytes each fits: 200 of them and the slashes between are at
 /// most 60,199 bytes.
-#[derive(Clone, Copy, Debug, PartialEq, Eq)]
+#[derive(Clone, Copy, PartialEq, Eq)]
 pub enum MeetFault {
     /// There was no memory.
     Memory,

@@ -20,7 +20,6 @@ use std::marker::Model;
 /// A rule by which topics are renamed. The left side says which topics these are. The right side is the new name as a
 /// filter: each `+` stands for the topic's level at one place of the left side, and a `#` at its end for the levels
 /// that the left side's `#` stands for.
-#[derive(Debug)]
 pub struct Rename {
     left: TopicFilter,
     right: TopicFilter,

@@ -1,4 +1,12 @@
 //! The retained messages: a tree by topic, and an index of their deadlines.
+//!
+//! ```text
+//! by topic:  plant/door "open", until 90     by deadline:  60  plant/energy
+//!            plant/energy "12", until 60                   90  plant/door
+//!            plant/notice "..", for ever
+//! ```
+//!
+//! So an advance to 75 looks at two pairs of the index, and at no other message.
 ghost use Rattle.std.specs.Prelude.{◌≡◌, ◌+◌, ◌<◌, ◌^◌, ℕ, [], length, not, OnOk, OnErr, IfOk};
 ghost use Rattle.std.specs.Prelude.{IfSome, None, nat_eq, if◌then◌else◌};
 ghost use Rattle.std.specs.List.{filter, list_any};

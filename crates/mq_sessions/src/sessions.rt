@@ -1,4 +1,12 @@
 //! The sessions of the clients, of those that are connected and of those that are away.
+//!
+//! ```text
+//!            connect               disconnect, with a session expiry
+//! nothing ────────────▶ connected ◀─────────────────────────────────▶ away: copies wait
+//!    ▲                      │               connect                         │
+//!    └──────────────────────┴───────────────────────────────────────────────┘
+//!            disconnect without one                 its time is over
+//! ```
 ghost use Rattle.std.specs.Prelude.{◌≡◌, [], length, not, is_some, false, true, OnOk, OnErr, IfOk};
 ghost use Rattle.std.specs.Prelude.{IfSome, IfNone, map, string_bytes};
 ghost use Rattle.std.specs.Option.{option_copied, option_map};

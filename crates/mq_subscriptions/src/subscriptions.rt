@@ -1,4 +1,13 @@
 //! The subscriptions of all clients.
+//!
+//! ```text
+//! by filter:  plant/# ── a: QoS 1          by client:  a ── plant/#
+//!                     ├─ b: QoS 0                      b ── plant/#
+//!                     └─ group workers: c, d           c ── $share/workers/plant/#
+//!                                                      d ── $share/workers/plant/#
+//! ```
+//!
+//! The member of a group that was served goes to its end, so that the next one takes its turn.
 ghost use Rattle.std.specs.Prelude.{◌≡◌, ◌+◌, [], length, not, IsTrue, OnOk, OnErr, IfOk, map};
 ghost use Rattle.std.specs.Prelude.{Some, true, false, None, ◌&&◌};
 ghost use Rattle.std.specs.Rc.{rc_str_bytes};

@@ -10,11 +10,12 @@ use Rattle.mq_acl.specs.Views.{row_views}
 use Rattle.mq_acl.specs.declared.row.Row.{Row}
 use Rattle.mq_acl.specs.declared.rules.Rules.TheVariants.{Own}
 use Rattle.mq_witness.specs.Ruled.{are_asked_of}
-use Rattle.mq_findings.specs.Differences as differences
-use Rattle.mq_findings.specs.Differences.{is_change, is_of, same_direction, same_reason, same_start}
-use Rattle.mq_findings.specs.Differences.{same_reasons, same_way}
-use Rattle.mq_findings.specs.declared.difference.Difference.{Difference}
-use Rattle.mq_findings.specs.declared.way.Way.{Way}
+use Rattle.mq_differences.specs.Differences as differences
+use Rattle.mq_differences.specs.Differences.{is_change, is_of, same_direction, same_reason}
+use Rattle.mq_differences.specs.Differences.{same_start}
+use Rattle.mq_differences.specs.Differences.{same_reasons, same_way}
+use Rattle.mq_differences.specs.declared.difference.Difference.{Difference}
+use Rattle.mq_differences.specs.declared.way.Way.{Way}
 use Rattle.mq_plan.specs.declared.rule.PlanRule.{PlanRule}
 use Rattle.mq_regions.specs.Regions.{in_region}
 use Rattle.mq_regions.specs.declared.region.Region.{Region}

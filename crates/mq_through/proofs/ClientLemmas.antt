@@ -13,14 +13,15 @@ use Rattle.mq_acl.specs.declared.access.Direction.{Direction}
 use Rattle.mq_acl.specs.declared.row.Row.{Row}
 use Rattle.mq_acl.specs.declared.rules.Rules.TheVariants.{Own}
 use Rattle.mq_witness.specs.Literals.{is_among}
-use Rattle.mq_findings.specs.Classes.{is_in, is_listed, user_of}
-use Rattle.mq_findings.specs.Differences as differences
-use Rattle.mq_findings.specs.Differences.{is_change, is_of, same_direction, same_reason, same_start}
-use Rattle.mq_findings.specs.Differences.{same_reasons, same_way}
-use Rattle.mq_findings.specs.Reasons.{reason_of}
-use Rattle.mq_findings.specs.declared.difference.Difference.{Difference}
-use Rattle.mq_findings.specs.declared.way.Way.{Way}
-use Rattle.mq_findings.specs.declared.way.Way.TheVariants.{Gained, Lost}
+use Rattle.mq_differences.specs.Classes.{is_in, is_listed, user_of}
+use Rattle.mq_differences.specs.Differences as differences
+use Rattle.mq_differences.specs.Differences.{is_change, is_of, same_direction, same_reason}
+use Rattle.mq_differences.specs.Differences.{same_start}
+use Rattle.mq_differences.specs.Differences.{same_reasons, same_way}
+use Rattle.mq_differences.specs.Reasons.{reason_of}
+use Rattle.mq_differences.specs.declared.difference.Difference.{Difference}
+use Rattle.mq_differences.specs.declared.way.Way.{Way}
+use Rattle.mq_differences.specs.declared.way.Way.TheVariants.{Gained, Lost}
 use Rattle.mq_plan.specs.Names.{new_name}
 use Rattle.mq_plan.specs.declared.rule.PlanRule.{PlanRule}
 use Rattle.mq_regions.specs.Deciding.{first_line}

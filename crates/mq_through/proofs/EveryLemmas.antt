@@ -4,10 +4,10 @@ use Rattle.std.proofs.Common.{List, [], ◌∷◌, refl, ap, sym, ◌∙◌, sub
 use Rattle.std.specs.List.{list_any}
 use Rattle.mq_acl.specs.Access.{begins_with_dollar}
 use Rattle.mq_acl.specs.declared.row.Row.{Row}
-use Rattle.mq_findings.specs.Differences.{same_direction, same_reason, same_way}
-use Rattle.mq_findings.specs.Reasons.{is_grant}
-use Rattle.mq_findings.specs.declared.way.Way.{Way}
-use Rattle.mq_findings.specs.declared.way.Way.TheVariants.{Gained, Lost}
+use Rattle.mq_differences.specs.Differences.{same_direction, same_reason, same_way}
+use Rattle.mq_differences.specs.Reasons.{is_grant}
+use Rattle.mq_differences.specs.declared.way.Way.{Way}
+use Rattle.mq_differences.specs.declared.way.Way.TheVariants.{Gained, Lost}
 use Rattle.mq_plan.specs.declared.rule.PlanRule.{PlanRule}
 use Rattle.mq_through.specs.Clients.{StandForAll, StandsFor}
 use Rattle.mq_through.specs.Through.{IsQuestion, Question, ShowsAll, changes, is_changed}

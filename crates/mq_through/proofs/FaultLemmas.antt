@@ -9,9 +9,9 @@ use Rattle.mq_rename.specs.Lists.{IsFault, has_long, is_long}
 use Rattle.mq_rename.specs.declared.fault.MeetFault.TheVariants.{TooLong}
 use Rattle.mq_witness.specs.Limits.{long_line}
 use Rattle.mq_witness.specs.Rows.{is_user_of}
-use Rattle.mq_findings.specs.Faults.{IsComparisonFault}
-use Rattle.mq_findings.specs.declared.fault.ComparisonFault.{ComparisonFault}
-use Rattle.mq_findings.specs.declared.fault.ComparisonFault.TheVariants as comparison
+use Rattle.mq_differences.specs.Faults.{IsComparisonFault}
+use Rattle.mq_differences.specs.declared.fault.ComparisonFault.{ComparisonFault}
+use Rattle.mq_differences.specs.declared.fault.ComparisonFault.TheVariants as comparison
 use Rattle.mq_regions.specs.Limits.{has_long_filter, has_long_row, is_long_question}
 use Rattle.mq_regions.specs.Regions.{region_levels}
 use Rattle.mq_regions.specs.declared.region.Region.{Region}

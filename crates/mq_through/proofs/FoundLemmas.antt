@@ -8,7 +8,7 @@ use Rattle.mq_rename.specs.Lists.{is_long}
 use Rattle.mq_regions.specs.Regions.{is_mark}
 use Rattle.mq_witness.specs.Clients.{can_be_id}
 use Rattle.mq_witness.specs.Literals.{is_among}
-use Rattle.mq_findings.specs.Classes.{can_be_user}
+use Rattle.mq_differences.specs.Classes.{can_be_user}
 use Rattle.mq_through.specs.Clients.{AreTried, StandForAll, ask_client}
 use Rattle.mq_through.specs.Clients.{is_named}
 use Rattle.mq_through.specs.Made.{IsClient, IsComparison}

@@ -9,11 +9,11 @@ use Rattle.mq_acl.specs.Lines.{Access}
 use Rattle.mq_acl.specs.Rows.{AclRow}
 use Rattle.mq_acl.specs.Views.{row_view}
 use Rattle.mq_acl.specs.declared.row.Row.{Row}
-use Rattle.mq_findings.specs.Classes.{is_in}
-use Rattle.mq_findings.specs.Differences.{same_direction, same_reason, same_start, same_way}
-use Rattle.mq_findings.specs.Reasons.{is_grant}
-use Rattle.mq_findings.specs.declared.reason.Reason.{Reason}
-use Rattle.mq_findings.specs.declared.way.Way.{Way}
+use Rattle.mq_differences.specs.Classes.{is_in}
+use Rattle.mq_differences.specs.Differences.{same_direction, same_reason, same_start, same_way}
+use Rattle.mq_differences.specs.Reasons.{is_grant}
+use Rattle.mq_differences.specs.declared.reason.Reason.{Reason}
+use Rattle.mq_differences.specs.declared.way.Way.{Way}
 use Rattle.mq_acl.specs.Views.{row_views}
 use Rattle.mq_regions.specs.Deciding.{decides, first_line}
 use Rattle.mq_regions.specs.Regions.{in_region, name_in}

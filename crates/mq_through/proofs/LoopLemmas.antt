@@ -15,8 +15,8 @@ use Rattle.mq_plan.specs.Names.{decided_name, name_by, new_name, rename_of, take
 use Rattle.mq_plan.specs.declared.rule.PlanRule.{PlanRule}
 use Rattle.mq_regions.specs.Regions.{in_region}
 use Rattle.mq_regions.specs.declared.region.Region.{Region}
-use Rattle.mq_findings.specs.declared.way.Way.{Way}
-use Rattle.mq_findings.proofs.FirstLemmas.{find_behind, parts_at}
+use Rattle.mq_differences.specs.declared.way.Way.{Way}
+use Rattle.mq_differences.proofs.FirstLemmas.{find_behind, parts_at}
 use Rattle.mq_witness.specs.Literals.{is_among}
 use Rattle.mq_topic.proofs.ByteLemmas.{text_is}
 use Rattle.mq_through.specs.Parts.{AreParts, IsPart, Widens, in_parts, rights_of}

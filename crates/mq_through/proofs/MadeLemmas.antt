@@ -21,9 +21,9 @@ use Rattle.mq_acl.specs.declared.row.Row.{Row}
 use Rattle.mq_rename.specs.Lists.{has_long, is_long, texts}
 use Rattle.mq_witness.specs.Literals.{is_among}
 use Rattle.mq_witness.specs.Rows.{is_name_of, is_user_of}
-use Rattle.mq_findings.specs.Classes.{is_in, is_listed, user_of}
-use Rattle.mq_findings.specs.declared.class.Class.{Class}
-use Rattle.mq_findings.specs.declared.class.Class.TheVariants.{Anonymous, User, Others}
+use Rattle.mq_differences.specs.Classes.{is_in, is_listed, user_of}
+use Rattle.mq_differences.specs.declared.class.Class.{Class}
+use Rattle.mq_differences.specs.declared.class.Class.TheVariants.{Anonymous, User, Others}
 use Rattle.mq_regions.specs.Deciding.{first_line}
 use Rattle.mq_regions.specs.Limits.{has_long_row, is_long_row}
 use Rattle.mq_regions.specs.Regions.{in_kind, in_region, is_taken, kind_levels, region_levels}

@@ -21,7 +21,7 @@ use Rattle.mq_plan.specs.declared.rule.PlanRule.{PlanRule}
 use Rattle.mq_regions.specs.Regions.{has_mark, in_kind, is_mark, is_taken, kind_levels}
 use Rattle.mq_regions.specs.declared.region.RegionKind.{RegionKind}
 use Rattle.mq_regions.specs.declared.region.RegionKind.TheVariants.{Same}
-use Rattle.mq_findings.proofs.FirstLemmas.{find_behind, find_none}
+use Rattle.mq_differences.proofs.FirstLemmas.{find_behind, find_none}
 use Rattle.mq_through.specs.Checks.{is_unfit, is_unfit_right, is_unfit_side, unfit_line}
 use Rattle.mq_through.specs.Parts.{IsKindOf, IsOfPlan, rights_of}
 

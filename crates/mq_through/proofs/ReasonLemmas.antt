@@ -11,10 +11,10 @@ use Rattle.mq_acl.specs.declared.access.Direction.{Direction}
 use Rattle.mq_acl.specs.declared.access.Direction.TheVariants.{Reading, Writing}
 use Rattle.mq_acl.specs.declared.row.Row.{Row}
 use Rattle.mq_acl.specs.declared.rules.Rules.TheVariants.{Own}
-use Rattle.mq_findings.specs.Reasons.{decides_at, is_grant, reason_by, reason_of}
-use Rattle.mq_findings.specs.declared.reason.Reason.{Reason}
-use Rattle.mq_findings.specs.declared.reason.Reason.TheVariants as reasons
-use Rattle.mq_findings.proofs.DeciderLemmas.{allowed_is, decider_ranks, found_passes, ranks}
+use Rattle.mq_differences.specs.Reasons.{decides_at, is_grant, reason_by, reason_of}
+use Rattle.mq_differences.specs.declared.reason.Reason.{Reason}
+use Rattle.mq_differences.specs.declared.reason.Reason.TheVariants as reasons
+use Rattle.mq_differences.proofs.DeciderLemmas.{allowed_is, decider_ranks, found_passes, ranks}
 use Rattle.mq_regions.specs.Deciding.{decides, first_line}
 
 -- the reason, where the first line of those that deny and the first of those that grant are these

@@ -17,15 +17,15 @@ use Rattle.mq_acl.specs.Views.{row_views}
 use Rattle.mq_acl.specs.declared.access.Direction.{Direction}
 use Rattle.mq_acl.specs.declared.access.Direction.TheVariants.{Reading, Writing}
 use Rattle.mq_acl.specs.declared.row.Row.{Row}
-use Rattle.mq_findings.specs.Classes.{is_in, is_listed}
-use Rattle.mq_findings.specs.Differences.{same_class, same_direction, same_reason, same_start}
-use Rattle.mq_findings.specs.Differences.{same_way}
-use Rattle.mq_findings.specs.declared.class.Class.{Class}
-use Rattle.mq_findings.specs.declared.class.Class.TheVariants.{Anonymous, User, Others}
-use Rattle.mq_findings.specs.declared.way.Way.{Way}
-use Rattle.mq_findings.specs.declared.way.Way.TheVariants.{Gained, Lost}
-use Rattle.mq_findings.proofs.FirstLemmas.{none_at}
-use Rattle.mq_findings.proofs.ReportLemmas.{reason_is}
+use Rattle.mq_differences.specs.Classes.{is_in, is_listed}
+use Rattle.mq_differences.specs.Differences.{same_class, same_direction, same_reason, same_start}
+use Rattle.mq_differences.specs.Differences.{same_way}
+use Rattle.mq_differences.specs.declared.class.Class.{Class}
+use Rattle.mq_differences.specs.declared.class.Class.TheVariants.{Anonymous, User, Others}
+use Rattle.mq_differences.specs.declared.way.Way.{Way}
+use Rattle.mq_differences.specs.declared.way.Way.TheVariants.{Gained, Lost}
+use Rattle.mq_differences.proofs.FirstLemmas.{none_at}
+use Rattle.mq_differences.proofs.ReportLemmas.{reason_is}
 use Rattle.mq_plan.specs.declared.rule.PlanRule.{PlanRule}
 use Rattle.mq_through.specs.Through.{AreApart, IsReal, Question, is_alike, is_shown_of, new_reason}
 use Rattle.mq_through.specs.Through.{old_reason, rule_line, same_line}

@@ -27,9 +27,9 @@ use Rattle.mq_regions.specs.Regions.{has_mark, is_mark}
 use Rattle.mq_witness.specs.Clients.{can_be_id}
 use Rattle.mq_witness.specs.Literals.{is_literal_in}
 use Rattle.mq_witness.specs.Rows.{is_name_of, is_user_of, row_names, rows_name}
-use Rattle.mq_findings.specs.Classes.{can_be_user, is_in, is_listed}
-use Rattle.mq_findings.specs.declared.class.Class.{Class}
-use Rattle.mq_findings.specs.declared.class.Class.TheVariants as classes
+use Rattle.mq_differences.specs.Classes.{can_be_user, is_in, is_listed}
+use Rattle.mq_differences.specs.declared.class.Class.{Class}
+use Rattle.mq_differences.specs.declared.class.Class.TheVariants as classes
 use Rattle.mq_through.specs.Checks.{has_topic_mark, is_unfit, is_unfit_right, is_unfit_side}
 use Rattle.mq_through.specs.Clients.{StandsFor, ask_client}
 use Rattle.mq_through.specs.Clients.{is_named}

@@ -4,7 +4,7 @@ use Rattle.std.proofs.Common.{sym, ◌∙◌, String, Global, string_bytes}
 use Rattle.std.specs.Str.{bytes_eq}
 use Rattle.std.proofs.lemmas.List.Folds.{list_any-append}
 use Rattle.mq_topic.proofs.ByteLemmas.{text_is}
-use Rattle.mq_findings.specs.Differences.{has_text}
+use Rattle.mq_differences.specs.Differences.{has_text}
 
 -- one more text, which passes the test
 pub one_more : (p : List ℕ → Bool) (texts : List (String Global)) (added : String Global)

@@ -11,8 +11,8 @@ use Rattle.mq_acl.specs.Access.{begins_with_dollar}
 use Rattle.mq_acl.specs.Rows.{AclRow}
 use Rattle.mq_acl.specs.Views.{row_views}
 use Rattle.mq_acl.specs.declared.row.Row.{Row}
-use Rattle.mq_findings.specs.Classes.{is_in}
-use Rattle.mq_findings.specs.declared.class.Class.{Class}
+use Rattle.mq_differences.specs.Classes.{is_in}
+use Rattle.mq_differences.specs.declared.class.Class.{Class}
 use Rattle.mq_plan.specs.Names.{left_of, rename_of}
 use Rattle.mq_plan.specs.declared.rule.PlanRule.{PlanRule}
 use Rattle.mq_rename.specs.Renames.{Renaming}

@@ -13,13 +13,13 @@ use Rattle.mq_rename.specs.Lists.{is_long}
 use Rattle.mq_witness.specs.Clients.{can_be_id}
 use Rattle.mq_witness.specs.Literals.{is_among}
 use Rattle.mq_witness.specs.Rows.{is_user_of}
-use Rattle.mq_findings.specs.Classes.{is_listed, user_of}
-use Rattle.mq_findings.specs.Differences.{has_text, is_of}
-use Rattle.mq_findings.specs.declared.class.Class.{Class}
-use Rattle.mq_findings.specs.declared.class.Class.TheVariants.{User, Others}
-use Rattle.mq_findings.specs.declared.difference.Difference.{Difference}
-use Rattle.mq_findings.specs.declared.fault.ComparisonFault.{ComparisonFault}
-use Rattle.mq_findings.specs.declared.fault.ComparisonFault.TheVariants as comparison
+use Rattle.mq_differences.specs.Classes.{is_listed, user_of}
+use Rattle.mq_differences.specs.Differences.{has_text, is_of}
+use Rattle.mq_differences.specs.declared.class.Class.{Class}
+use Rattle.mq_differences.specs.declared.class.Class.TheVariants.{User, Others}
+use Rattle.mq_differences.specs.declared.difference.Difference.{Difference}
+use Rattle.mq_differences.specs.declared.fault.ComparisonFault.{ComparisonFault}
+use Rattle.mq_differences.specs.declared.fault.ComparisonFault.TheVariants as comparison
 use Rattle.mq_plan.specs.Names.{new_name}
 use Rattle.mq_plan.specs.declared.rule.PlanRule.{PlanRule}
 use Rattle.mq_regions.specs.Deciding.{first_line}
@@ -116,7 +116,7 @@ pub record IsRenamed (plan : List PlanRule) (old new : List Row) (client : List 
   pub new_line : r.difference.new_reason ≡ d.new_reason
   pub named : new_name plan d.topic ≡ Some r.new_topic
   pub rule : r.rule ≡ rule_line plan d.topic
-  pub marked : (text : List ℕ) → has_text r.difference.made_up.items text
+  pub marked : (text : List ℕ) → has_text r.difference.placeholders.items text
       ≡ (is_of text client (user_of d.class) d.topic
       && not (is_named_in plan old new text))
 

@@ -10,13 +10,14 @@ use Rattle.mq_acl.specs.declared.access.Direction.{Direction}
 use Rattle.mq_acl.specs.declared.row.Row.{Row}
 use Rattle.mq_acl.specs.declared.rules.Rules.TheVariants.{Own}
 use Rattle.mq_witness.specs.Clients.{can_be_id}
-use Rattle.mq_findings.specs.Classes.{can_be_user, is_in, user_of}
-use Rattle.mq_findings.specs.Differences.{has_text, is_of, same_class, same_direction, same_reason}
-use Rattle.mq_findings.specs.Differences.{same_start, same_way}
-use Rattle.mq_findings.specs.Reasons.{reason_of}
-use Rattle.mq_findings.specs.declared.reason.Reason.{Reason}
-use Rattle.mq_findings.specs.declared.way.Way.{Way}
-use Rattle.mq_findings.specs.declared.way.Way.TheVariants.{Gained, Lost}
+use Rattle.mq_differences.specs.Classes.{can_be_user, is_in, user_of}
+use Rattle.mq_differences.specs.Differences.{has_text, is_of, same_class, same_direction}
+use Rattle.mq_differences.specs.Differences.{same_reason}
+use Rattle.mq_differences.specs.Differences.{same_start, same_way}
+use Rattle.mq_differences.specs.Reasons.{reason_of}
+use Rattle.mq_differences.specs.declared.reason.Reason.{Reason}
+use Rattle.mq_differences.specs.declared.way.Way.{Way}
+use Rattle.mq_differences.specs.declared.way.Way.TheVariants.{Gained, Lost}
 use Rattle.mq_plan.specs.Names.{new_name, rule_for}
 use Rattle.mq_plan.specs.declared.rule.PlanRule.{PlanRule}
 use Rattle.mq_through.specs.Named.{is_named_in}
@@ -110,10 +111,10 @@ question_of r = record {
   name = r.new_topic;
 }
 
--- its texts that are made up are those of the client id, the user name and the topic's levels that
--- neither list and no rule names
+-- its placeholders are those of the client id, the user name and the topic's levels that neither
+-- list and no rule names
 abbrev pub IsMarked : List PlanRule → (old new : List Row) → Renamed → Type 0
-IsMarked plan old new r = (text : List ℕ) → has_text r.difference.made_up.items text
+IsMarked plan old new r = (text : List ℕ) → has_text r.difference.placeholders.items text
     ≡ (is_of text (string_bytes r.difference.client) (user_of r.difference.class)
     r.difference.topic && not (is_named_in plan old new text))
 

@@ -3,7 +3,7 @@ use Rattle.std.specs.Prelude.{◌≡◌, ℕ, true, List, All, Option, Some, Non
 use Rattle.std.specs.List.{list_any}
 use denote.Ref.{Bor}
 use Rattle.mq_acl.specs.declared.row.Row.{Row}
-use Rattle.mq_findings.specs.declared.way.Way.{Way}
+use Rattle.mq_differences.specs.declared.way.Way.{Way}
 use Rattle.mq_plan.specs.declared.rule.PlanRule.{PlanRule}
 use Rattle.mq_regions.specs.Regions.{in_region}
 use Rattle.mq_regions.specs.declared.region.Region.{Region}

@@ -1,7 +1,7 @@
 use std::alloc::AllocError;
 
 /// Why two lists can't be compared through a plan. Lines are counted from 1.
-#[derive(Clone, Copy, Debug, PartialEq, Eq)]
+#[derive(Clone, Copy, PartialEq, Eq)]
 pub enum ThroughFault {
     /// There was no memory.
     Memory,

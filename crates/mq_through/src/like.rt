@@ -1,52 +1,11 @@
 //! What is shown once.
 ghost use Rattle.std.specs.Prelude.{◌≡◌, ◌++◌, ◌∷◌, [], OnOk, if◌then◌else◌};
 ghost use Rattle.std.specs.List.{list_any};
-ghost use Rattle.mq_acl.specs.Access.{begins_with_dollar};
-ghost use Rattle.mq_findings.specs.Differences.{same_class, same_direction, same_start};
 ghost use Rattle.mq_through.specs.Through.{is_alike, same_line};
 
 use crate::renamed::Renamed;
-use mq_acl::Direction;
-use mq_findings::Class;
-use mq_topic::{LevelText, TopicName};
+use mq_differences::{same_class, same_direction, same_start};
 use std::alloc::AllocError;
-
-fn same_direction(left: Direction, right: Direction) -> bool
-    ensures { result ≡ same_direction left right }
-{
-    match left {
-        Direction::Reading => matches!(right, Direction::Reading),
-        Direction::Writing => matches!(right, Direction::Writing),
-    }
-}
-
-fn same_class(left: &Class, right: &Class) -> bool
-    ensures { result ≡ same_class left.now right.now }
-{
-    match (left, right) {
-        (Class::Anonymous, Class::Anonymous) => true,
-        (Class::User(name), Class::User(other)) => name == other,
-        (Class::Others(_), Class::Others(_)) => true,
-        _ => false,
-    }
-}
-
-fn begins_with_dollar(topic: &TopicName) -> bool
-    ensures { result ≡ begins_with_dollar topic.now }
-{
-    topic.text().as_bytes().first() == Some(&b'$')
-}
-
-// Whether both begin with `$`, or neither does.
-fn same_start(left: &TopicName, right: &TopicName) -> bool
-    ensures { result ≡ same_start left.now right.now }
-{
-    if begins_with_dollar(left) {
-        begins_with_dollar(right)
-    } else {
-        !begins_with_dollar(right)
-    }
-}
 
 fn same_line(left: Option<u64>, right: Option<u64>) -> bool
     ensures { result ≡ same_line left right }

@@ -1,12 +1,12 @@
 ghost use Rattle.std.specs.Prelude.{◌≡◌};
 
-use mq_findings::Difference;
+use mq_differences::Difference;
 use mq_topic::TopicName;
 
 /// A topic that a client may read or write by the old list, and may not under its new name by the new one, or the other
 /// way round.
 pub struct Renamed {
-    /// What changes, and for whom. `topic` is the topic's old name, and `made_up` has those of the client id, the user
+    /// What changes, and for whom. `topic` is the topic's old name, and `placeholders` has those of the client id, the user
     /// name and the topic's levels that neither list and no rule of the plan names.
     pub difference: Difference,
     /// The new name of the topic.

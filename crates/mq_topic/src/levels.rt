@@ -1,3 +1,4 @@
+//! The levels of a text: those of `plant//door` are `plant`, an empty one and `door`.
 ghost use Rattle.std.specs.Prelude.{◌≡◌, ◌∷◌, length, slice_get};
 ghost use Rattle.std.specs.Option.{option_copied};
 ghost use Rattle.mq_topic.specs.Levels.{levels, levels_left};

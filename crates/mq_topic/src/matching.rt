@@ -1,3 +1,11 @@
+//! Which filters match which names.
+//!
+//! | Filter | Matches | Doesn't match |
+//! |---|---|---|
+//! | `plant/+` | `plant/hall-1`, `plant/` | `plant`, `plant/hall-1/door` |
+//! | `plant/#` | `plant`, `plant/hall-1/door` | `plants` |
+//! | `#`, `+/load` | `plant/load` (each) | `$SYS/load` (neither) |
+//! | `$SYS/#` | `$SYS`, `$SYS/load` | |
 ghost use Rattle.std.specs.Prelude.{◌≡◌, ℕ, Bool, List, ◌==◌, ◌&&◌, length, codes};
 ghost use Rattle.std.specs.Str.{bytes_eq};
 ghost use Rattle.mq_topic.specs.Levels.{levels, levels_left};

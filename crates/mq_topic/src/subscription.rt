@@ -1,3 +1,11 @@
+//! What a client subscribes to: a filter, or `$share/NAME/FILTER` (MQTT 5.0, section 4.8.2).
+//!
+//! | Text | Share name | Filter |
+//! |---|---|---|
+//! | `plant/#` | none | `plant/#` |
+//! | `$share/workers/plant/#` | `workers` | `plant/#` |
+//! | `$share/workers//` | `workers` | `/` |
+//! | `$share//plant`, `$share/a+b/plant`, `$share/workers`, `$share/workers/` | faulty | |
 ghost use Rattle.std.specs.Prelude.{◌≡◌, IfOk, IfErr, IfSome, is_none, false, Some, IsTrue};
 ghost use Rattle.std.specs.Prelude.{string_bytes};
 ghost use Rattle.std.specs.Option.{option_map, option_copied};

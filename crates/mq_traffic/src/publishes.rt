@@ -1,5 +1,5 @@
 /// How many publishes of a script are to some topics, and how many topics they are.
-#[derive(Clone, Copy, Debug, PartialEq, Eq)]
+#[derive(Clone, Copy, PartialEq, Eq)]
 pub struct Publishes {
     /// The publishes.
     pub count: u64,

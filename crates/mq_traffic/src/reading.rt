@@ -7,7 +7,7 @@ use std::io::{self, BufRead, BufReader, ErrorKind, Read};
 const SCRIPT_LIMIT: u64 = 4_294_967_296;
 
 /// Why a script isn't read to its end.
-#[derive(Debug, Drop)]
+#[derive(Drop)]
 pub enum TrafficFault {
     /// The reader failed.
     Read(io::Error),

@@ -1,3 +1,12 @@
+//! The tree. With values at `plant/+`, `plant/hall-1/door` and `#` it has these nodes:
+//!
+//! ```text
+//! root ─┬─ #                     a value
+//!       └─ plant ─┬─ +           a value
+//!                 └─ hall-1 ── door   a value
+//! ```
+//!
+//! A look-up for the name `plant/hall-2` enters the root, `#`, `plant` and `+`, and no other node.
 ghost use Rattle.std.specs.Prelude.{◌≡◌, ◌+◌, [], length, map, IfOk, OnOk, OnErr, None};
 ghost use Rattle.std.specs.BTreeMap.{insert_entry};
 ghost use Rattle.std.specs.List.{filter, sum_by};

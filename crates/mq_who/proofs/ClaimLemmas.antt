@@ -19,13 +19,13 @@ use Rattle.mq_acl.specs.declared.rules.Rules.{Rules}
 use Rattle.mq_witness.specs.Clients.{can_be_id}
 use Rattle.mq_witness.specs.Roots.{same}
 use Rattle.mq_witness.specs.Rows.{is_user_of}
-use Rattle.mq_findings.specs.Classes.{can_be_user, is_listed, user_of}
-use Rattle.mq_findings.specs.Differences.{same_direction, same_reason, same_start}
-use Rattle.mq_findings.specs.Reasons.{reason_of}
-use Rattle.mq_findings.specs.declared.class.Class.{Class}
-use Rattle.mq_findings.specs.declared.class.Class.TheVariants as classes
-use Rattle.mq_findings.specs.declared.difference.Difference.{Difference}
-use Rattle.mq_findings.proofs.FirstLemmas.{first_place}
+use Rattle.mq_differences.specs.Classes.{can_be_user, is_listed, user_of}
+use Rattle.mq_differences.specs.Differences.{same_direction, same_reason, same_start}
+use Rattle.mq_differences.specs.Reasons.{reason_of}
+use Rattle.mq_differences.specs.declared.class.Class.{Class}
+use Rattle.mq_differences.specs.declared.class.Class.TheVariants as classes
+use Rattle.mq_differences.specs.declared.difference.Difference.{Difference}
+use Rattle.mq_differences.proofs.FirstLemmas.{first_place}
 use Rattle.mq_expect.specs.Expectations.{Claim, Whom, Anyone, Anonymous, Others, User}
 use Rattle.mq_expect.specs.Views.{whom_view}
 use Rattle.mq_expect.specs.declared.expectation.Holds.TheVariants as holds

@@ -15,22 +15,23 @@ use Rattle.mq_acl.specs.declared.rules.Rules.{Rules}
 use Rattle.mq_witness.specs.Limits.{has_short_levels}
 use Rattle.mq_witness.specs.Rows.{rows_name}
 use Rattle.mq_witness.specs.Swaps.{swap, swap_user, swap_name}
-use Rattle.mq_findings.specs.Classes.{is_in, user_of}
-use Rattle.mq_findings.specs.Differences.{AreUnnamed, IsKnown, IsMarked, ShowsAll, is_shown_of, same_way}
-use Rattle.mq_findings.specs.Differences.{same_class, same_direction, same_reason, same_start}
-use Rattle.mq_findings.specs.Differences as differences
-use Rattle.mq_findings.specs.Faults.{IsComparisonFault}
-use Rattle.mq_findings.specs.Reasons.{reason_of}
-use Rattle.mq_findings.specs.declared.class.Class.{Class}
-use Rattle.mq_findings.specs.declared.class.Class.TheVariants as classes
-use Rattle.mq_findings.specs.declared.difference.Difference.{Difference}
-use Rattle.mq_findings.specs.declared.fault.ComparisonFault.{ComparisonFault}
-use Rattle.mq_findings.specs.declared.fault.ComparisonFault.TheVariants as comparison
-use Rattle.mq_findings.specs.declared.fault.Side.TheVariants.{Old, New}
-use Rattle.mq_findings.specs.declared.reason.Reason.{Reason}
-use Rattle.mq_findings.specs.declared.reason.Reason.TheVariants.{Deny, Grant, NoGrant}
-use Rattle.mq_findings.specs.declared.way.Way.{Way}
-use Rattle.mq_findings.specs.declared.way.Way.TheVariants.{Gained, Lost}
+use Rattle.mq_differences.specs.Classes.{is_in, user_of}
+use Rattle.mq_differences.specs.Differences.{AreUnnamed, IsKnown, IsMarked, ShowsAll, is_shown_of}
+use Rattle.mq_differences.specs.Differences.{same_way}
+use Rattle.mq_differences.specs.Differences.{same_class, same_direction, same_reason, same_start}
+use Rattle.mq_differences.specs.Differences as differences
+use Rattle.mq_differences.specs.Faults.{IsComparisonFault}
+use Rattle.mq_differences.specs.Reasons.{reason_of}
+use Rattle.mq_differences.specs.declared.class.Class.{Class}
+use Rattle.mq_differences.specs.declared.class.Class.TheVariants as classes
+use Rattle.mq_differences.specs.declared.difference.Difference.{Difference}
+use Rattle.mq_differences.specs.declared.fault.ComparisonFault.{ComparisonFault}
+use Rattle.mq_differences.specs.declared.fault.ComparisonFault.TheVariants as comparison
+use Rattle.mq_differences.specs.declared.fault.Side.TheVariants.{Old, New}
+use Rattle.mq_differences.specs.declared.reason.Reason.{Reason}
+use Rattle.mq_differences.specs.declared.reason.Reason.TheVariants.{Deny, Grant, NoGrant}
+use Rattle.mq_differences.specs.declared.way.Way.{Way}
+use Rattle.mq_differences.specs.declared.way.Way.TheVariants.{Gained, Lost}
 use Rattle.mq_who.specs.Faults.{IsWhoFault, fault_of}
 use Rattle.mq_who.specs.Made.{IsMade, access_of, is_decided}
 use Rattle.mq_who.specs.Who.{AreMarked, IsListing, IsReal, Shows, ShowsOthers}

@@ -26,15 +26,15 @@ use Rattle.mq_witness.specs.Literals.{is_literal_in}
 use Rattle.mq_witness.specs.Roots.{same}
 use Rattle.mq_witness.specs.Rows.{row_names, rows_name}
 use Rattle.mq_witness.specs.Ruled.{are_asked_of, has_patterns, has_whole_marks}
-use Rattle.mq_findings.specs.Classes.{is_listed}
-use Rattle.mq_findings.specs.Differences.{is_change}
-use Rattle.mq_findings.specs.Ranks.{is_judge, judges, rank}
-use Rattle.mq_findings.specs.Reasons.{is_grant, reason_by, reason_of}
-use Rattle.mq_findings.specs.declared.reason.Reason.{Reason}
-use Rattle.mq_findings.specs.declared.reason.Reason.TheVariants as reasons
-use Rattle.mq_findings.specs.declared.way.Way.{Way}
-use Rattle.mq_findings.specs.declared.way.Way.TheVariants.{Gained, Lost}
-use Rattle.mq_findings.proofs.DeciderLemmas.{allowed_is}
+use Rattle.mq_differences.specs.Classes.{is_listed}
+use Rattle.mq_differences.specs.Differences.{is_change}
+use Rattle.mq_differences.specs.Ranks.{is_judge, judges, rank}
+use Rattle.mq_differences.specs.Reasons.{is_grant, reason_by, reason_of}
+use Rattle.mq_differences.specs.declared.reason.Reason.{Reason}
+use Rattle.mq_differences.specs.declared.reason.Reason.TheVariants as reasons
+use Rattle.mq_differences.specs.declared.way.Way.{Way}
+use Rattle.mq_differences.specs.declared.way.Way.TheVariants.{Gained, Lost}
+use Rattle.mq_differences.proofs.DeciderLemmas.{allowed_is}
 use Rattle.mq_who.specs.Who.{are_asked, asked_row, is_asked, is_case}
 use Rattle.mq_who.specs.Made.{access_of, is_decided}
 

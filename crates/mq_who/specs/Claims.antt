@@ -16,11 +16,11 @@ use Rattle.mq_acl.specs.declared.rules.Rules.TheVariants.{Own, Mosquitto}
 use Rattle.mq_cover.specs.Names.{can_be_level}
 use Rattle.mq_witness.specs.Clients.{can_be_id}
 use Rattle.mq_witness.specs.Rows.{is_user_of}
-use Rattle.mq_findings.specs.Classes.{can_be_user, user_of}
-use Rattle.mq_findings.specs.Differences.{same_direction}
-use Rattle.mq_findings.specs.declared.class.Class.{Class}
-use Rattle.mq_findings.specs.declared.class.Class.TheVariants as classes
-use Rattle.mq_findings.specs.declared.difference.Difference.{Difference}
+use Rattle.mq_differences.specs.Classes.{can_be_user, user_of}
+use Rattle.mq_differences.specs.Differences.{same_direction}
+use Rattle.mq_differences.specs.declared.class.Class.{Class}
+use Rattle.mq_differences.specs.declared.class.Class.TheVariants as classes
+use Rattle.mq_differences.specs.declared.difference.Difference.{Difference}
 use Rattle.mq_expect.specs.Expectations.{Claim, Whom, Anyone, Anonymous, Others, User, excepted}
 use Rattle.mq_expect.specs.declared.expectation.Holds.{Holds}
 use Rattle.mq_expect.specs.declared.expectation.Holds.TheVariants.{Every, AtLeastOne, Never}

@@ -7,10 +7,10 @@ use Rattle.mq_acl.specs.declared.access.Direction.{Direction}
 use Rattle.mq_acl.specs.declared.row.Row.{Row}
 use Rattle.mq_acl.specs.declared.rules.Rules.{Rules}
 use Rattle.mq_witness.specs.Clients.{can_be_id}
-use Rattle.mq_findings.specs.Classes.{can_be_user}
-use Rattle.mq_findings.specs.Differences.{same_class, same_direction}
-use Rattle.mq_findings.specs.declared.class.Class.{Class}
-use Rattle.mq_findings.specs.declared.difference.Difference.{Difference}
+use Rattle.mq_differences.specs.Classes.{can_be_user}
+use Rattle.mq_differences.specs.Differences.{same_class, same_direction}
+use Rattle.mq_differences.specs.declared.class.Class.{Class}
+use Rattle.mq_differences.specs.declared.difference.Difference.{Difference}
 use Rattle.mq_who.specs.Who.{are_asked, is_asked, is_case, is_member}
 use Rattle.mq_who.specs.declared.extent.Extent.{Extent}
 use Rattle.mq_who.specs.declared.extent.Extent.TheVariants.{Every, Part, Nothing, Unmatched}

@@ -8,9 +8,9 @@ use Rattle.mq_acl.specs.declared.row.Row.{Row}
 use Rattle.mq_acl.specs.declared.rules.Rules.{Rules}
 use Rattle.mq_acl.specs.declared.rules.Rules.TheVariants.{Mosquitto}
 use Rattle.mq_witness.specs.Limits.{has_short_levels, long_line, marked_line}
-use Rattle.mq_findings.specs.Steps.{enough_steps}
-use Rattle.mq_findings.specs.declared.fault.ComparisonFault.{ComparisonFault}
-use Rattle.mq_findings.specs.declared.fault.ComparisonFault.TheVariants as comparison
+use Rattle.mq_differences.specs.Steps.{enough_steps}
+use Rattle.mq_differences.specs.declared.fault.ComparisonFault.{ComparisonFault}
+use Rattle.mq_differences.specs.declared.fault.ComparisonFault.TheVariants as comparison
 use Rattle.mq_who.specs.declared.fault.WhoFault.{WhoFault}
 use Rattle.mq_who.specs.declared.fault.WhoFault.TheVariants as who
 

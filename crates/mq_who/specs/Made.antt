@@ -3,8 +3,8 @@ use Rattle.std.specs.Prelude.{◌≡◌, ℕ, Bool, true, false, List, [], ◌�
 use Rattle.mq_acl.specs.Lines.{Access, Deny, ReadWrite}
 use Rattle.mq_acl.specs.Views.{row_view}
 use Rattle.mq_acl.specs.declared.row.Row.{Row}
-use Rattle.mq_findings.specs.declared.reason.Reason.{Reason}
-use Rattle.mq_findings.specs.declared.reason.Reason.TheVariants as reasons
+use Rattle.mq_differences.specs.declared.reason.Reason.{Reason}
+use Rattle.mq_differences.specs.declared.reason.Reason.TheVariants as reasons
 use Rattle.mq_who.specs.Who.{asked_row}
 
 -- what a list allows is what one loses that denies it, and what it doesn't, what one gains that grants

@@ -26,12 +26,13 @@ use Rattle.mq_witness.specs.Literals.{is_literal_in}
 use Rattle.mq_witness.specs.Roots.{same}
 use Rattle.mq_witness.specs.Rows.{rows_name}
 use Rattle.mq_witness.specs.Swaps.{swap, swap_user, swap_name}
-use Rattle.mq_findings.specs.Classes.{can_be_user, is_in, user_of}
-use Rattle.mq_findings.specs.Differences.{AreUnnamed, IsKnown, IsMarked, same_direction, same_reason}
-use Rattle.mq_findings.specs.Differences.{same_class, same_start}
-use Rattle.mq_findings.specs.Reasons.{reason_of}
-use Rattle.mq_findings.specs.declared.class.Class.{Class}
-use Rattle.mq_findings.specs.declared.difference.Difference.{Difference}
+use Rattle.mq_differences.specs.Classes.{can_be_user, is_in, user_of}
+use Rattle.mq_differences.specs.Differences.{AreUnnamed, IsKnown, IsMarked, same_direction}
+use Rattle.mq_differences.specs.Differences.{same_reason}
+use Rattle.mq_differences.specs.Differences.{same_class, same_start}
+use Rattle.mq_differences.specs.Reasons.{reason_of}
+use Rattle.mq_differences.specs.declared.class.Class.{Class}
+use Rattle.mq_differences.specs.declared.difference.Difference.{Difference}
 
 -- the row of a `pattern` line with this filter
 abbrev pub asked_row : Access → List ℕ → AclRow
@@ -103,7 +104,7 @@ abbrev pub IsReal : Rules → (allows : Bool) → List Row → (wanted : List �
 IsReal rules allows rows wanted d =
     Shows rules allows rows wanted d (string_bytes d.client) (user_of d.class) d.topic
 
--- it is so too with any text in the place of one that is made up, and stands for it
+-- it is so too with any text in the place of a placeholder that stands for it
 abbrev pub ShowsOthers : Rules → (allows : Bool) → List Row → (wanted : List ℕ) → AskedRows
     → Difference → Type 0
 ShowsOthers rules allows rows wanted asked d = (text other : List ℕ) → StandsFor asked text other
@@ -117,8 +118,8 @@ abbrev pub is_like : Difference → Difference → Bool
 is_like d e = same_class d.class e.class && same_direction d.direction e.direction
     && same_start d.topic e.topic && same_reason d.old_reason e.old_reason
 
--- some texts are made up: what is listed has those of its own marked, which neither the list nor the
--- filter names, and they stand for others
+-- some texts are placeholders: what is listed has its own, which neither the list nor the filter
+-- names, and they stand for others
 pub record AreMarked (rules : Rules) (allows : Bool) (rows : List Row) (wanted : List ℕ)
     (all : List Difference) : Type 0 where
   pub asked : AskedRows

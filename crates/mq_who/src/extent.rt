@@ -3,16 +3,15 @@ ghost use Rattle.std.specs.Prelude.{◌≡◌, ◌&&◌, ℕ, List, true, false}
 ghost use Rattle.std.specs.List.{list_any};
 ghost use Rattle.mq_acl.specs.declared.row.Row.{Row};
 ghost use Rattle.mq_acl.specs.declared.rules.Rules.{Rules};
-ghost use Rattle.mq_findings.specs.Differences.{same_class, same_direction};
 ghost use Rattle.mq_who.specs.Extents.{IsExtent, extent_of, is_about};
 ghost use Rattle.mq_who.specs.Who.{IsListing};
 
 use crate::permissions::Permissions;
 use mq_acl::Direction;
-use mq_findings::{Class, Difference};
+use mq_differences::{Class, Difference, same_class, same_direction};
 
 /// How much of what a filter matches clients may read, or write.
-#[derive(Clone, Copy, Debug, PartialEq, Eq)]
+#[derive(Clone, Copy, PartialEq, Eq)]
 pub enum Extent {
     /// Each of them may each topic.
     Every,
@@ -24,26 +23,6 @@ pub enum Extent {
     /// mosquitto's rules so it is for those of a user name with `/`, `+` or `#`, of which nothing
     /// is asked.
     Unmatched,
-}
-
-fn same_class(left: &Class, right: &Class) -> bool
-    ensures { result ≡ same_class left.now right.now }
-{
-    match (left, right) {
-        (Class::Anonymous, Class::Anonymous) => true,
-        (Class::User(name), Class::User(other)) => name == other,
-        (Class::Others(_), Class::Others(_)) => true,
-        _ => false,
-    }
-}
-
-pub(crate) fn same_direction(left: Direction, right: Direction) -> bool
-    ensures { result ≡ same_direction left right }
-{
-    match left {
-        Direction::Reading => matches!(right, Direction::Reading),
-        Direction::Writing => matches!(right, Direction::Writing),
-    }
 }
 
 // Whether one of them is of the class and the direction.

@@ -1,11 +1,11 @@
 ghost use Rattle.std.specs.Prelude.{◌≡◌};
 ghost use Rattle.mq_who.specs.Faults.{fault_of};
 
-use mq_findings::ComparisonFault;
+use mq_differences::ComparisonFault;
 use std::alloc::AllocError;
 
 /// Why it can't be said who may.
-#[derive(Clone, Copy, Debug, PartialEq, Eq)]
+#[derive(Clone, Copy, PartialEq, Eq)]
 pub enum WhoFault {
     /// There was no memory.
     Memory,

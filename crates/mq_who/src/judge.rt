@@ -16,17 +16,16 @@ ghost use Rattle.mq_who.specs.Claims.{is_asked_about, is_known, is_meant, is_mea
 ghost use Rattle.mq_who.specs.Faults.{IsWhoFault};
 ghost use Rattle.mq_who.specs.Who.{IsListing};
 
-use crate::extent::same_direction;
 use crate::fault::WhoFault;
 use crate::permissions::{has_short_levels, listed};
 use mq_acl::{Direction, Owner, Row, Rules, grants};
+use mq_differences::{Class, Difference, same_direction};
 use mq_expect::{Claim, Holds, Whom};
-use mq_findings::{Class, Difference};
 use mq_topic::LevelText;
 use std::alloc::Global;
 
 /// Whether a list keeps to what is expected of it.
-#[derive(Debug, Drop)]
+#[derive(Drop)]
 pub enum Judgement<'p> {
     /// It does, for each client and topic that is asked about: by mosquitto's rules clients whose id or user name holds
     /// `/`, `+` or `#` aren't.

@@ -3,7 +3,7 @@ ghost use Rattle.std.specs.Prelude.{◌≡◌, ℕ, Bool, List, IfOk, IfErr, tru
 ghost use Rattle.std.specs.List.{filter, list_all};
 ghost use Rattle.mq_topic.specs.Levels.{levels};
 ghost use Rattle.mq_witness.specs.Limits.{has_short_levels};
-ghost use Rattle.mq_findings.specs.declared.difference.Difference.{Difference};
+ghost use Rattle.mq_differences.specs.declared.difference.Difference.{Difference};
 ghost use Rattle.mq_who.specs.Faults.{IsWhoFault};
 ghost use Rattle.mq_who.specs.Made.{IsMade, is_decided};
 ghost use Rattle.mq_who.specs.Who.{IsListing};
@@ -11,14 +11,13 @@ ghost use Rattle.mq_who.specs.Who.{IsListing};
 use crate::fault::{WhoFault, fault_of};
 use crate::made::made;
 use mq_acl::{Row, Rules};
-use mq_findings::{Difference, Reason, compare};
+use mq_differences::{Difference, Reason, compare};
 use mq_topic::{LevelText, TopicFilter};
 use std::alloc::{AllocError, Global};
 
 /// What clients may and may not read and write of the topics that a filter matches. Of what the
 /// same line decides for the same class and direction, one client and topic is listed, and one more
 /// where topics with `$` in front are among others.
-#[derive(Debug)]
 pub struct Permissions {
     /// What the list allows. `old_reason` is the line that grants it; the new list is one that denies it.
     pub granted: Vec<Difference>,

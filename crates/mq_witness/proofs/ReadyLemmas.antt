@@ -142,12 +142,12 @@ search_ready asked texts users f clients must cover can seen listed must_in cove
       cover_listed = all_contained (λ row. is_listed users row.who) asked.rows cover all cover_in;
       unlisted = can.named f.user.now
           ∙ false_is (is_user_of f.user.now asked.rows) (rows_name f.user.now asked.rows)
-          (user_is_named asked.rows f.user.now) (can.unnamed f.user.now made_up);
+          (user_is_named asked.rows f.user.now) (can.unnamed f.user.now placeholders);
       user_fits = by clients listed;
     }
   where
-    made_up : list_any (bytes_eq f.user.now) (fresh_texts texts) ≡ true
-    made_up =
+    placeholders : list_any (bytes_eq f.user.now) (fresh_texts texts) ≡ true
+    placeholders =
         or_right (bytes_eq f.user.now (string_bytes texts.plain)) _
         (or_right (bytes_eq f.user.now (string_bytes texts.dollar)) _
         (or_right (bytes_eq f.user.now (string_bytes texts.client)) _

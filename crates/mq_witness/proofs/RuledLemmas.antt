@@ -36,7 +36,7 @@ use Rattle.mq_cover.specs.declared.start.Start.TheVariants.{Dollar}
 use Rattle.mq_cover.proofs.NameLemmas.{suits_inside}
 use Rattle.mq_cover.proofs.RemainderLemmas.{covers_cons, covers_hash}
 use Rattle.mq_witness.specs.Asked.{AreLevels, AskedRows, FindsNoneIn, IsShownIn, ShowsIn, StandsIn}
-use Rattle.mq_witness.specs.Asked.{is_client_of, is_made_up, user_view}
+use Rattle.mq_witness.specs.Asked.{is_client_of, is_placeholder, user_view}
 use Rattle.mq_witness.specs.Clients.{can_be_id, name_passes}
 use Rattle.mq_witness.specs.Decided.{concerns_in, decides_in, first_is_mark, is_mark}
 use Rattle.mq_witness.specs.Ruled.{decides_by, has_patterns, has_whole_marks}
@@ -47,7 +47,7 @@ use Rattle.mq_witness.specs.declared.clients.Clients.{Clients}
 use Rattle.mq_witness.specs.declared.clients.Clients.TheVariants.{Anonymous, Named, Others}
 use Rattle.mq_witness.specs.declared.witness.Witness.{Witness}
 use Rattle.mq_witness.proofs.ReadyLemmas.{all_contained}
-use Rattle.mq_witness.proofs.SwapLemmas.{IsMadeUp, swap_cases}
+use Rattle.mq_witness.proofs.SwapLemmas.{IsPlaceholder, swap_cases}
 use Rattle.mq_witness.proofs.NameLemmas.{dollar_suits, joined_lacking, levels_without}
 
 -- ---- a text without marks
@@ -764,8 +764,8 @@ module _ (asked : AskedRows) (clients : Clients) (must cover : List AclRow)
   witness_shown h = shown_by asked clients must cover is whole must_in cover_in
       (string_bytes w.client) (user_view w.user) w.name found_are_levels h
 
-  pub witness_stands : ((text : List ℕ) → is_made_up text asked ≡ true
-      → IsMadeUp text × (rows_name text asked.rows ≡ false))
+  pub witness_stands : ((text : List ℕ) → is_placeholder text asked ≡ true
+      → IsPlaceholder text × (rows_name text asked.rows ≡ false))
       → StandsIn true asked clients must cover w → StandsBy asked clients must cover w
   witness_stands made h text other stands valid =
       shown_by asked clients must cover is whole must_in cover_in
@@ -781,7 +781,7 @@ module _ (asked : AskedRows) (clients : Clients) (must cover : List AclRow)
     where
       level : can_be_level text ≡ true
       level = (and_parts (can_be_level text) (nat_le (length text) 321)
-          (made text stands.made_up).0.level).0
+          (made text stands.placeholder).0.level).0
 
       swapped : (t : List ℕ) → can_be_level t ≡ true → can_be_level (swap text other t) ≡ true
       swapped t k = swap_cases text other t (λ v. can_be_level v ≡ true) level stands.level k

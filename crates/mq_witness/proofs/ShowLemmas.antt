@@ -18,7 +18,7 @@ use Rattle.mq_witness.specs.Answers.{IsFoundBy}
 use Rattle.mq_witness.specs.Asked.{AreLevels, AskedRows, FindsNone, FindsNoneIn, IsListed, Knows}
 use Rattle.mq_witness.specs.Asked.{ShowsIn}
 use Rattle.mq_witness.specs.Asked.{is_known}
-use Rattle.mq_witness.specs.Asked.{is_made_up}
+use Rattle.mq_witness.specs.Asked.{is_placeholder}
 use Rattle.mq_witness.specs.Asked.{user_view}
 use Rattle.mq_witness.specs.Clients.{can_be_id, is_of, name_passes}
 use Rattle.mq_witness.specs.Decided.{decides, decides_in}
@@ -112,11 +112,11 @@ rows_named_fit f p (row ∷ all) fit h =
     (rows_named_fit f p all parts.1
     (λ l i. h l (or_right (row_names l row) (rows_name l all) i)))
 
--- each text of what is found is named by a row, or made up
+-- each text of what is found is named by a row, or a placeholder
 pub found_known : (front kind : Bool) (asked : AskedRows) (texts dollar longest : FreshTexts)
     (users : Literals) (both : BothFresh) (clients : Clients) (must cover : List AclRow)
     (found : Found) (w : Witness) → CanAnswer asked.rows texts dollar longest users
-    → asked.made_up ≡ fresh_texts texts ++ fresh_texts dollar → IsSeen texts both.plain
+    → asked.placeholders ≡ fresh_texts texts ++ fresh_texts dollar → IsSeen texts both.plain
     → IsSeen dollar both.dollar → IsListed asked clients → All (Contains asked.rows) must
     → HasTexts found w → IsFoundBy front kind both (λ u. is_named u users) clients must cover found
     → Knows asked w
@@ -124,7 +124,7 @@ found_known front kind asked texts dollar longest users both clients must cover 
     begun listed must_in has h =
     let rows_known = rows_named_fit both.plain (is_known asked) asked.rows
     (can.asked_can.fits both.plain seen)
-    (λ l i. or_left (rows_name l asked.rows) (is_made_up l asked) i) in
+    (λ l i. or_left (rows_name l asked.rows) (is_placeholder l asked) i) in
     let pass = h.known (is_known asked)
     (fresh texts both.plain seen (λ t e. known t
     (or_left (list_any (bytes_eq t) (fresh_texts texts)) _ e)))
@@ -140,7 +140,7 @@ found_known front kind asked texts dollar longest users both clients must cover 
   where
     known : (t : List ℕ) → (list_any (bytes_eq t) (fresh_texts texts)
         || list_any (bytes_eq t) (fresh_texts dollar)) ≡ true → is_known asked t ≡ true
-    known t e = or_right (rows_name t asked.rows) (is_made_up t asked)
+    known t e = or_right (rows_name t asked.rows) (is_placeholder t asked)
         (ap (list_any (bytes_eq t)) made
         ∙ list_any-append (bytes_eq t) (fresh_texts texts) (fresh_texts dollar) ∙ e)
 
@@ -170,7 +170,7 @@ found_known front kind asked texts dollar longest users both clients must cover 
 
     by : (k : Clients) → IsListed asked k → name_passes (is_known asked) k ≡ true
     by Anonymous e = refl
-    by (Named name) e = or_left (rows_name name.now asked.rows) (is_made_up name.now asked)
+    by (Named name) e = or_left (rows_name name.now asked.rows) (is_placeholder name.now asked)
         (user_is_named asked.rows name.now e)
     by Others e = refl
 

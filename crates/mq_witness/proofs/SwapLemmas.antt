@@ -22,7 +22,7 @@ use Rattle.mq_cover.specs.Remainders.{fits}
 use Rattle.mq_cover.specs.declared.start.Start.TheVariants.{Dollar}
 use Rattle.mq_cover.proofs.NameLemmas.{choice_is_level, suits_inside}
 use Rattle.mq_cover.proofs.TextLemmas.{false_is, or_cases}
-use Rattle.mq_witness.specs.Asked.{AskedRows, IsListed, IsShownIn, ShowsOthersIn, is_made_up}
+use Rattle.mq_witness.specs.Asked.{AskedRows, IsListed, IsShownIn, ShowsOthersIn, is_placeholder}
 use Rattle.mq_witness.specs.Clients.{can_be_id, is_of}
 use Rattle.mq_witness.specs.Decided.{concerns_in, decides_in, may_begin}
 use Rattle.mq_witness.specs.Fresh.{is_literal, AreFresh}
@@ -269,15 +269,15 @@ module _ (f : Fresh) (a b : List ℕ) where
       (one_apart row parts.0 (λ l i. h l (or_left (row_names l row) (rows_name l all) i)))
       (all_apart all parts.1 (λ l i. h l (or_right (row_names l row) (rows_name l all) i)))
 
--- ---- what is made up
--- a text that is made up can be a level, and is not empty
-pub record IsMadeUp (text : List ℕ) : Type 0 where
+-- ---- placeholders
+-- a placeholder can be a level, and is not empty
+pub record IsPlaceholder (text : List ℕ) : Type 0 where
   pub level : is_name_level text ≡ true
   pub id : can_be_id text ≡ true
 
-made_up_is : (t : FreshTexts) (f : Fresh) → AreFresh f → IsSeen t f → (text : List ℕ)
-    → list_any (bytes_eq text) (fresh_texts t) ≡ true → IsMadeUp text
-made_up_is t f fresh seen text h =
+placeholder_is : (t : FreshTexts) (f : Fresh) → AreFresh f → IsSeen t f → (text : List ℕ)
+    → list_any (bytes_eq text) (fresh_texts t) ≡ true → IsPlaceholder text
+placeholder_is t f fresh seen text h =
     or_cases (bytes_eq text (string_bytes t.plain)) _ h
     (λ e. same (string_bytes t.plain) e f.others.plain.now seen.plain
     (made f.others.plain.now others.plain_level others.plain_some))
@@ -296,30 +296,30 @@ made_up_is t f fresh seen text h =
     others : OthersAre f
     others = others_are f fresh
 
-    made : (id : List ℕ) → is_name_level id ≡ true → (length id == 0) ≡ false → IsMadeUp id
+    made : (id : List ℕ) → is_name_level id ≡ true → (length id == 0) ≡ false → IsPlaceholder id
     made id level some = record { level = level; id = level_can_be_id id level some }
 
-    same : (s : List ℕ) → bytes_eq text s ≡ true → (id : List ℕ) → id ≡ s → IsMadeUp id
-        → IsMadeUp text
-    same s e id g m = subst IsMadeUp (g ∙ sym (text_is text s e)) m
+    same : (s : List ℕ) → bytes_eq text s ≡ true → (id : List ℕ) → id ≡ s → IsPlaceholder id
+        → IsPlaceholder text
+    same s e id g m = subst IsPlaceholder (g ∙ sym (text_is text s e)) m
 
--- each text that is made up is among those of the one kind or the other, and no row names it
+-- each placeholder is among those of the one kind or the other, and no row names it
 pub both_made : (asked : AskedRows) (texts dollar longest : FreshTexts) (users : Literals)
     (both : BothFresh) → CanAnswer asked.rows texts dollar longest users
-    → asked.made_up ≡ fresh_texts texts ++ fresh_texts dollar → IsSeen texts both.plain
-    → IsSeen dollar both.dollar → (text : List ℕ) → is_made_up text asked ≡ true
-    → IsMadeUp text × (rows_name text asked.rows ≡ false)
+    → asked.placeholders ≡ fresh_texts texts ++ fresh_texts dollar → IsSeen texts both.plain
+    → IsSeen dollar both.dollar → (text : List ℕ) → is_placeholder text asked ≡ true
+    → IsPlaceholder text × (rows_name text asked.rows ≡ false)
 both_made asked texts dollar longest users both can made seen begun text h =
     or_cases (list_any (bytes_eq text) (fresh_texts texts))
     (list_any (bytes_eq text) (fresh_texts dollar))
     (sym (ap (list_any (bytes_eq text)) made
     ∙ list_any-append (bytes_eq text) (fresh_texts texts) (fresh_texts dollar)) ∙ h)
     (λ e. (
-      made_up_is texts both.plain (can.asked_can.fresh both.plain seen) seen text e,
+      placeholder_is texts both.plain (can.asked_can.fresh both.plain seen) seen text e,
       can.asked_can.unnamed text e,
     ))
     (λ e. (
-      made_up_is dollar both.dollar (can.dollar_can.fresh both.dollar begun) begun text e,
+      placeholder_is dollar both.dollar (can.dollar_can.fresh both.dollar begun) begun text e,
       can.dollar_can.unnamed text e,
     ))
 
@@ -339,8 +339,8 @@ texts_seen t = record { plain = refl; dollar = refl; client = refl; user = refl 
 
 pub all_made : (asked : AskedRows) (texts dollar longest : FreshTexts) (users : Literals)
     → CanAnswer asked.rows texts dollar longest users
-    → asked.made_up ≡ fresh_texts texts ++ fresh_texts dollar → (text : List ℕ)
-    → is_made_up text asked ≡ true → IsMadeUp text × (rows_name text asked.rows ≡ false)
+    → asked.placeholders ≡ fresh_texts texts ++ fresh_texts dollar → (text : List ℕ)
+    → is_placeholder text asked ≡ true → IsPlaceholder text × (rows_name text asked.rows ≡ false)
 all_made asked texts dollar longest users can made text h =
     both_made asked texts dollar longest users
     (record { plain = lent_texts texts; dollar = lent_texts dollar }) can made (texts_seen texts)
@@ -380,15 +380,15 @@ swapped_client asked Others a b (Some u) na nb ia ib listed h =
 module _ (asked : AskedRows) (f : Fresh) (fit : rows_fit (is_literal f) asked.rows ≡ true)
     (clients : Clients) (must cover : List AclRow) where
   pub shows_others : (front : Bool)
-      → ((text : List ℕ) → is_made_up text asked ≡ true
-      → IsMadeUp text × (rows_name text asked.rows ≡ false))
+      → ((text : List ℕ) → is_placeholder text asked ≡ true
+      → IsPlaceholder text × (rows_name text asked.rows ≡ false))
       → IsListed asked clients → All (Contains asked.rows) must
       → All (Contains asked.rows) cover → (client : List ℕ) (user : Option (List ℕ))
       → (name : List ℕ) → IsShownIn front asked clients must cover client user name
       → ShowsOthersIn front asked clients must cover client user name
   shows_others front made listed must_in cover_in client user name shown a b stands valid =
-      let first = (made a stands.made_up).0 in
-      let unnamed = (made a stands.made_up).1 in
+      let first = (made a stands.placeholder).0 in
+      let unnamed = (made a stands.placeholder).1 in
       let alike : AreAlike a b = record {
         dollar = stands.dollar;
         slash = no_slash a (and_parts (can_be_level a) (nat_le (length a) 321) first.level).0;

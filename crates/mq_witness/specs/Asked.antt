@@ -24,10 +24,10 @@ use Rattle.mq_witness.specs.declared.witness.Witness.{Witness}
 pub record AskedRows : Type 0 where
   pub rules : Rules
   pub rows : List AclRow
-  pub made_up : List (List ℕ)
+  pub placeholders : List (List ℕ)
 
-abbrev pub is_made_up : List ℕ → AskedRows → Bool
-is_made_up text asked = list_any (bytes_eq text) asked.made_up
+abbrev pub is_placeholder : List ℕ → AskedRows → Bool
+is_placeholder text asked = list_any (bytes_eq text) asked.placeholders
 
 -- whether the clients of this user name, or without one, are among those that are asked about
 abbrev pub is_client_of : AskedRows → Clients → Option (List ℕ) → Bool
@@ -68,12 +68,12 @@ abbrev pub IsShown : AskedRows → Clients → (must cover : List AclRow) → Li
 IsShown asked clients must cover client user name =
     IsShownIn false asked clients must cover client user name
 
--- a text that is made up stands for this other one: no row names that, and where the one can be an
+-- a placeholder stands for this other one: no row names that, and where the one can be an
 -- id or a level, so can the other
 pub record StandsFor (asked : AskedRows) (text other : List ℕ) : Type 0 where
-  pub made_up : is_made_up text asked ≡ true
+  pub placeholder : is_placeholder text asked ≡ true
   pub unnamed : rows_name other asked.rows ≡ false
-  pub apart : is_made_up other asked ≡ false
+  pub apart : is_placeholder other asked ≡ false
   pub id : can_be_id other ≡ true
   pub level : can_be_level other ≡ true
   pub dollar : begins_with_dollar other ≡ begins_with_dollar text
@@ -92,9 +92,9 @@ abbrev pub ShowsOthers : AskedRows → Clients → (must cover : List AclRow) �
 ShowsOthers asked clients must cover client user name =
     ShowsOthersIn false asked clients must cover client user name
 
--- a row names the text, or it is made up
+-- a row names the text, or it is a placeholder
 abbrev pub is_known : AskedRows → List ℕ → Bool
-is_known asked text = rows_name text asked.rows || is_made_up text asked
+is_known asked text = rows_name text asked.rows || is_placeholder text asked
 
 -- so it is of the client id, the user name and each level of the topic
 pub record AreKnown (asked : AskedRows) (client : List ℕ) (user : Option (List ℕ))

@@ -11,7 +11,7 @@ ghost use Rattle.mq_cover.specs.Names.{can_be_level};
 ghost use Rattle.mq_witness.specs.Clients.{name_passes};
 ghost use Rattle.mq_witness.specs.Ruled.{FindsNoneBy, ShowsBy, StandsBy, are_whole, has_patterns};
 ghost use Rattle.mq_witness.specs.Asked.{AreLevels, FindsNone, FindsNoneIn, IsListed, Knows, Shows};
-ghost use Rattle.mq_witness.specs.Asked.{ShowsIn, Stands, StandsIn, is_made_up};
+ghost use Rattle.mq_witness.specs.Asked.{ShowsIn, Stands, StandsIn, is_placeholder};
 ghost use Rattle.mq_witness.specs.Limits.{IsFault, long_line};
 ghost use Rattle.mq_witness.specs.Literals.{is_among, is_named};
 ghost use Rattle.mq_witness.specs.Rows.{all_rows, is_user_of, lent_rows, rows_name};
@@ -78,7 +78,7 @@ impl<'a> Model for Asked<'a> {
     ghost view = { λ a. record {
       rules = a.rules;
       rows = all_rows a.lists.items;
-      made_up = fresh_texts a.texts
+      placeholders = fresh_texts a.texts
           ++ fresh_texts a.dollar;
     } };
 
@@ -168,8 +168,8 @@ impl<'a> Asked<'a> {
     }
 
     /// Whether a witness has this client id, user name or level of its topic for any that no row names.
-    pub fn is_made_up(&self, text: &str) -> bool
-        ensures made_up { result ≡ is_made_up text.now self.now }
+    pub fn is_placeholder(&self, text: &str) -> bool
+        ensures placeholder { result ≡ is_placeholder text.now self.now }
         ensures unnamed { result ≡ true → rows_name text.now self.now.rows ≡ false }
     {
         self.texts.has(text) || self.dollar.has(text)
@@ -177,8 +177,8 @@ impl<'a> Asked<'a> {
 
     /// A client and a topic that each row of `must` concerns and no row of `cover` does, or that
     /// there is none: of all client ids that a broker can have, all user names that are asked
-    /// about, and all topic names. Where a text of the answer is named by no row it is made up, and
-    /// stands for any other that no row names. The only error is that memory is refused.
+    /// about, and all topic names. A text of the answer that no row names is a placeholder: it stands
+    /// for any other that no row names. The only error is that memory is refused.
     pub fn find<'q>(
         &'q self,
         alloc: Global,

@@ -1,5 +1,5 @@
 /// Which clients a question is about, by their user names.
-#[derive(Clone, Copy, Debug, Drop)]
+#[derive(Clone, Copy, Drop)]
 pub enum Clients<'a> {
     /// Those without a user name.
     Anonymous,

@@ -1,7 +1,7 @@
 use std::alloc::AllocError;
 
 /// Why lists can't be asked.
-#[derive(Clone, Copy, Debug, PartialEq, Eq)]
+#[derive(Clone, Copy, PartialEq, Eq)]
 pub enum ListFault {
     /// There was no memory.
     Memory,
@@ -25,7 +25,7 @@ impl From<AllocError> for ListFault {
 }
 
 /// Why no topic is known of one client. A topic name made of levels of more than 300 bytes could be too long.
-#[derive(Clone, Copy, Debug, PartialEq, Eq)]
+#[derive(Clone, Copy, PartialEq, Eq)]
 pub enum LimitFault {
     /// There was no memory.
     Memory,

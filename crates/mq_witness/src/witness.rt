@@ -1,7 +1,7 @@
 use mq_topic::TopicName;
 
 /// A client and a topic.
-#[derive(Debug, Drop)]
+#[derive(Drop)]
 pub struct Witness {
     /// The client id.
     pub client: String,

@@ -6,9 +6,9 @@ use Rattle.mq_acl.specs.Views.{row_views}
 use Rattle.mq_acl.specs.declared.row.Row.{Row}
 use Rattle.mq_acl.specs.declared.rules.Rules.{Rules}
 use Rattle.mq_acl.specs.declared.rules.Rules.TheVariants.{Own}
-use Rattle.mq_findings.specs.Classes.{is_in}
-use Rattle.mq_findings.specs.Differences.{same_direction, same_reason, same_start, same_way}
-use Rattle.mq_findings.specs.declared.way.Way.{Way}
+use Rattle.mq_differences.specs.Classes.{is_in}
+use Rattle.mq_differences.specs.Differences.{same_direction, same_reason, same_start, same_way}
+use Rattle.mq_differences.specs.declared.way.Way.{Way}
 use Rattle.mq_plan.specs.declared.rule.PlanRule.{PlanRule}
 use Rattle.mq_through.specs.Through.{IsReal, Question, ShowsAll, is_changed, is_shown_of}
 use Rattle.mq_through.specs.Through.{new_reason, old_reason, question_of, rule_line, same_line}

@@ -9,7 +9,7 @@ use Rattle.mq_acl.specs.declared.rules.Rules.TheVariants.{Own}
 use Rattle.mq_acl_answers.specs.Answers.{is_way}
 use Rattle.mq_acl_answers.specs.declared.outcome.Outcome.{Outcome}
 use Rattle.mq_acl_answers.specs.declared.outcome.Outcome.TheVariants.{Clear, Remark}
-use Rattle.mq_findings.specs.declared.way.Way.{Way}
+use Rattle.mq_differences.specs.declared.way.Way.{Way}
 use Rattle.mq_plan.specs.Rules.{rules_of}
 use Rattle.mq_plan.specs.declared.rule.PlanRule.{PlanRule}
 use Rattle.mq_through.specs.Through.{IsQuestion, Question, is_changed}

@@ -16,7 +16,7 @@ use mq_acl_plan::{
     PlanAnswerFault, PlanScope, RenamedChanges, find_renamed, plan_fault_words, renamed_text,
 };
 use mq_acl_print::ListText;
-use mq_findings::Way;
+use mq_differences::Way;
 use mq_plan::{PlanFault, PlanKind};
 use mq_through::{Renamed, ThroughFault};
 use std::alloc::{AllocError, Global};

@@ -2,7 +2,7 @@
 ghost use Rattle.std.specs.Prelude.{◌≡◌, ℕ, IfOk, IfErr, OnOk, false, true};
 ghost use Rattle.std.specs.List.{list_any};
 ghost use Rattle.mq_acl.specs.declared.rules.Rules.TheVariants.{Own};
-ghost use Rattle.mq_findings.specs.Faults.{IsComparisonFault};
+ghost use Rattle.mq_differences.specs.Faults.{IsComparisonFault};
 ghost use Rattle.mq_acl_answers.specs.Answers.{AreChanges, AreRows, IsCompared, is_way};
 ghost use Rattle.mq_acl_answers.specs.Failures.{IsComparisonFailure};
 ghost use Rattle.mq_acl_answers.specs.Notes.{IsQuiet};
@@ -17,7 +17,7 @@ use crate::printing::print_outcome;
 use mq_acl::{Row, Rules};
 use mq_acl_args::Options;
 use mq_acl_print::{ComparedTraffic, ListText, Scope, ScriptTraffic, changes_text};
-use mq_findings::{ComparisonFault, Difference, Side, Way, compare};
+use mq_differences::{ComparisonFault, Difference, Side, Way, compare};
 use std::alloc::{AllocError, Global};
 use std::io::Write;
 

@@ -6,7 +6,7 @@ ghost use Rattle.mq_reach.specs.Reach.{Reads, list_by};
 
 use mq_acl::{Direction, Row, Rules};
 use mq_acl_args::Client;
-use mq_findings::why;
+use mq_differences::why;
 use mq_topic::{LevelText, TopicFault, TopicFilter, TopicName, matches};
 use std::alloc::{AllocError, Global};
 
@@ -68,7 +68,7 @@ fn read_topic(
 }
 
 /// A topic that by these rules the client may read by these rows, and the filter matches, where
-/// this one is such: with a short level in the place of each that is made up to be longer than any
+/// this one is such: with a short level in the place of each placeholder, which is longer than any
 /// that is named, unless that is another.
 pub(crate) fn shown_topic(
     alloc: Global,

@@ -26,7 +26,7 @@ use crate::printing::print_outcome;
 use mq_acl::{Direction, Row, Rules};
 use mq_acl_args::{Options, Selection};
 use mq_acl_print::{Asked, ListText, ListTraffic, ScriptTraffic, permissions_text};
-use mq_findings::{Class, Difference};
+use mq_differences::{Class, Difference};
 use mq_topic::{TopicFault, TopicFilter};
 use mq_who::{Permissions, WhoFault, who_may};
 use std::alloc::{AllocError, Global};

@@ -2,7 +2,7 @@
 ghost use Rattle.std.specs.Prelude.{◌≡◌, ◌⊎◌, ℕ, List, Option, IfOk, IfErr, OnOk, false, true};
 ghost use Rattle.mq_acl.specs.declared.rules.Rules.{Rules};
 ghost use Rattle.mq_acl.specs.declared.rules.Rules.TheVariants.{Own};
-ghost use Rattle.mq_findings.specs.Reasons.{is_grant};
+ghost use Rattle.mq_differences.specs.Reasons.{is_grant};
 ghost use Rattle.std.specs.Option.{option_copied};
 ghost use Rattle.mq_acl_answers.specs.Answers.{Explains, IsExplained};
 ghost use Rattle.mq_acl_answers.specs.Failures.{IsListFailure, IsTopicFailure};
@@ -19,7 +19,7 @@ use crate::printing::print_outcome;
 use mq_acl::{Direction, Rules};
 use mq_acl_args::{Client, Options};
 use mq_acl_print::{AskedTopic, ListText, explanation_text};
-use mq_findings::{Verdict, why};
+use mq_differences::{Verdict, why};
 use mq_topic::{TopicFault, TopicName};
 use mq_witness::has_pattern;
 use std::alloc::{AllocError, Global};

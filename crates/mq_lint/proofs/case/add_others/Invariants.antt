@@ -1,7 +1,7 @@
 use Rattle.std.proofs.Common.{◌≡◌, ◌++◌, take}
 use Rattle.mq_acl.specs.Views.{row_view}
 use Rattle.mq_witness.specs.Rows.{lent_rows}
-use Rattle.mq_findings.specs.Marks.{views_of}
+use Rattle.mq_differences.specs.Marks.{views_of}
 use Rattle.mq_lint.specs.Needless.{without}
 use Rattle.mq_lint.proofs.case.add_others.Given as goal
 

@@ -1,7 +1,7 @@
 use Rattle.std.proofs.Common.{◌≡◌, ◌++◌, drop}
 use Rattle.std.specs.List.{filter}
 use Rattle.mq_witness.specs.Rows.{lent_rows}
-use Rattle.mq_findings.specs.Marks.{views_of}
+use Rattle.mq_differences.specs.Marks.{views_of}
 use Rattle.mq_otherwise.specs.Parts.{is_part}
 use Rattle.mq_otherwise.proofs.parts.part.Given as goal
 

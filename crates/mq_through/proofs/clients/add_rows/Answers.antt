@@ -1,7 +1,7 @@
 use Rattle.std.proofs.Common.{◌∙◌, ◌||◌, ◌+◌, ap, drop, sym}
 use Rattle.std.specs.List.{list_any}
 use Rattle.mq_acl.specs.Views.{row_view, row_views}
-use Rattle.mq_findings.proofs.JudgeLemmas.{any_views}
+use Rattle.mq_differences.proofs.JudgeLemmas.{any_views}
 use Rattle.mq_regions.specs.Limits.{is_long_row}
 use Rattle.mq_witness.specs.Literals.{is_among}
 use Rattle.mq_through.specs.Clients.{row_tries}

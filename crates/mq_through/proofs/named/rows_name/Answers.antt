@@ -1,5 +1,5 @@
 use Rattle.std.proofs.Common.{sym, ◌∙◌}
-use Rattle.mq_findings.proofs.JudgeLemmas.{any_views}
+use Rattle.mq_differences.proofs.JudgeLemmas.{any_views}
 use Rattle.mq_witness.specs.Rows.{row_names}
 use Rattle.mq_through.proofs.named.rows_name.Goals as goal
 

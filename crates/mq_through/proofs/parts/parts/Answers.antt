@@ -2,7 +2,7 @@ use Rattle.std.proofs.Common.{◌∙◌, ◌++◌, ◌∷◌, ◌+◌, List, ap,
 use Rattle.std.proofs.Common.{take}
 use Rattle.mq_plan.specs.Names.{name_by, takes}
 use Rattle.mq_plan.specs.declared.rule.PlanRule.{PlanRule}
-use Rattle.mq_findings.proofs.FirstLemmas.{parts_at}
+use Rattle.mq_differences.proofs.FirstLemmas.{parts_at}
 use Rattle.mq_through.specs.Checks.{unfit_line}
 use Rattle.mq_through.specs.Parts.{AreParts}
 use Rattle.mq_through.proofs.LoopLemmas.{ArePartsTo, parts_all, parts_more}

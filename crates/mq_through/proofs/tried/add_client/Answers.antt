@@ -4,8 +4,8 @@ use Rattle.std.proofs.lemmas.Iterator.Consumers.{YieldsList-end, YieldsList-turn
 use Rattle.std.proofs.lemmas.Result.{err_from_is_err_and}
 use Rattle.mq_acl.specs.declared.row.Row.{Row}
 use Rattle.mq_acl.specs.declared.rules.Rules.TheVariants.{Own}
-use Rattle.mq_findings.specs.Differences.{ShowsAll}
-use Rattle.mq_findings.specs.declared.difference.Difference.{Difference}
+use Rattle.mq_differences.specs.Differences.{ShowsAll}
+use Rattle.mq_differences.specs.declared.difference.Difference.{Difference}
 use Rattle.mq_through.proofs.AddingLemmas.{IsAdding, adding_all, adding_more, all_seen, are_made}
 use Rattle.mq_through.proofs.AddingLemmas.{real_at}
 use Rattle.mq_through.proofs.ClientLemmas.{differs_by, name_fault}

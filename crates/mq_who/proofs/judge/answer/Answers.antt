@@ -1,5 +1,5 @@
 use Rattle.std.proofs.Common.{List, false, subst, sym, true}
-use Rattle.mq_findings.specs.declared.difference.Difference.{Difference}
+use Rattle.mq_differences.specs.declared.difference.Difference.{Difference}
 use Rattle.mq_expect.specs.Views.{claim_view}
 use Rattle.mq_who.specs.Who.{IsListing}
 use Rattle.mq_who.proofs.ClaimLemmas.{every_judged, never_judged, one_judged}

@@ -1,5 +1,5 @@
 use Rattle.std.proofs.Common.{List, subst, sym}
-use Rattle.mq_findings.specs.declared.difference.Difference.{Difference}
+use Rattle.mq_differences.specs.declared.difference.Difference.{Difference}
 use Rattle.mq_who.specs.Who.{IsListing}
 use Rattle.mq_who.specs.Faults.{IsWhoFault}
 use Rattle.mq_who.specs.declared.fault.WhoFault.{WhoFault}

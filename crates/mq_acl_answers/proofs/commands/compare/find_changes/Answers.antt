@@ -1,6 +1,6 @@
 use Rattle.std.proofs.Common.{◌∙◌, rules, subst, sym}
 use Rattle.std.proofs.lemmas.Result.{IfOk-from_err}
-use Rattle.mq_findings.specs.Faults.{IsComparisonFault}
+use Rattle.mq_differences.specs.Faults.{IsComparisonFault}
 use Rattle.mq_acl_answers.specs.Answers.{AreRows}
 use Rattle.mq_acl_answers.proofs.CompareLemmas.{allow_same}
 use Rattle.mq_acl_answers.proofs.commands.compare.find_changes.Goals as goal

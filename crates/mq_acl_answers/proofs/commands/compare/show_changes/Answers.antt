@@ -1,7 +1,7 @@
 use Rattle.std.proofs.Common.{◌∙◌, List, ap, refl, sym, Result, Ok, Err, IfErr}
 use Rattle.std.specs.List.{list_any}
 use Rattle.std.proofs.lemmas.Result.{IfOk-weaker}
-use Rattle.mq_findings.specs.declared.difference.Difference.{Difference}
+use Rattle.mq_differences.specs.declared.difference.Difference.{Difference}
 use Rattle.mq_acl_answers.specs.Answers.{is_way}
 use Rattle.mq_acl_answers.proofs.CompareLemmas.{compared}
 use Rattle.mq_acl_answers.proofs.commands.compare.show_changes.Goals as goal

@@ -2,7 +2,7 @@ use Rattle.std.specs.Option.{option_copied}
 use Rattle.std.proofs.Common.{List, subst, sym, true}
 use Rattle.std.proofs.lemmas.Result.{IfOk-weaker}
 use Rattle.mq_acl.specs.Views.{row_views}
-use Rattle.mq_findings.specs.declared.difference.Difference.{Difference}
+use Rattle.mq_differences.specs.declared.difference.Difference.{Difference}
 use Rattle.mq_who.specs.Who.{IsListing}
 use Rattle.mq_acl_answers.specs.Who.{IsWho}
 use Rattle.mq_acl_answers.proofs.commands.who.show_who.Goals as goal

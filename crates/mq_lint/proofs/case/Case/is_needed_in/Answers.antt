@@ -1,7 +1,7 @@
 use Rattle.std.proofs.Common.{◌+◌, ap, subst, sym, ◌∙◌}
 use Rattle.mq_acl.specs.Views.{row_view}
 use Rattle.mq_acl.specs.declared.rules.Rules.{Rules}
-use Rattle.mq_findings.specs.Ranks.{rank}
+use Rattle.mq_differences.specs.Ranks.{rank}
 use Rattle.mq_lint.specs.Cases.{NoneAt, Precedes}
 use Rattle.mq_lint.proofs.CaseLemmas.{alone_needed, last_needed, needless_elsewhere, needless_in}
 use Rattle.mq_lint.proofs.CaseLemmas.{next_needed}

@@ -1,9 +1,9 @@
 use Rattle.std.proofs.Common.{ap, ◌∙◌}
 use Rattle.mq_acl.specs.declared.rules.Rules.TheVariants.{Mosquitto, Own}
 use Rattle.mq_witness.specs.Asked.{user_view}
-use Rattle.mq_findings.specs.Classes.{user_of}
-use Rattle.mq_findings.specs.Reasons.{reason_of}
-use Rattle.mq_findings.proofs.PointLemmas.{class_user}
+use Rattle.mq_differences.specs.Classes.{user_of}
+use Rattle.mq_differences.specs.Reasons.{reason_of}
+use Rattle.mq_differences.proofs.PointLemmas.{class_user}
 use Rattle.mq_otherwise.proofs.ReportLemmas.{real_of}
 use Rattle.mq_otherwise.proofs.question.Question.describe.Goals as goal
 

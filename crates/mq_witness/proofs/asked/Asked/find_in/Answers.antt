@@ -41,7 +41,7 @@ returns-in_ok-show-in-Some-clause-stands c =
     let both : BothFresh = record { plain = c.fresh.result; dollar = c.fresh-2.result } in
     let must = lent_rows c.args.must.now in
     let cover = lent_rows c.args.cover.now in
-    let made = ap (λ (s : AskedRows). s.made_up) (sym c.self.view_is) in
+    let made = ap (λ (s : AskedRows). s.placeholders) (sym c.self.view_is) in
     shows_others asked both.plain (can.asked_can.fits both.plain c.fresh.ensures) c.args.clients
     must cover c.args.front
     (both_made asked c.self.inside.texts c.self.inside.dollar c.self.inside.longest
@@ -66,7 +66,7 @@ returns-in_ok-show-in-Some-clause-known c =
     let both : BothFresh = record { plain = c.fresh.result; dollar = c.fresh-2.result } in
     let must = lent_rows c.args.must.now in
     let cover = lent_rows c.args.cover.now in
-    let made = ap (λ (s : AskedRows). s.made_up) (sym c.self.view_is) in
+    let made = ap (λ (s : AskedRows). s.placeholders) (sym c.self.view_is) in
     found_known c.args.front c.args.dollar asked c.self.inside.texts c.self.inside.dollar c.self.inside.longest
     c.self.inside.users both c.args.clients must cover c.in-Some.found w can made c.fresh.ensures
     c.fresh-2.ensures c.requires.user c.requires.must (record {

@@ -62,5 +62,5 @@ returns-clause-stands c =
     c.self.inside.users
     (subst (λ (s : AskedRows). CanAnswer s.rows c.self.inside.texts c.self.inside.dollar
     c.self.inside.longest c.self.inside.users) c.self.view_is c.self.invariant.0)
-    (ap (λ (s : AskedRows). s.made_up) (sym c.self.view_is))) stands)
+    (ap (λ (s : AskedRows). s.placeholders) (sym c.self.view_is))) stands)
     c.find_in.ensures.levels c.find_in.ensures.stands

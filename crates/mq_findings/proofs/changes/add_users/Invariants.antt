@@ -1,7 +1,0 @@
-use Rattle.mq_findings.proofs.ChangeLemmas.{AreUsersDone}
-use Rattle.mq_findings.proofs.changes.add_users.Given as goal
-
--- all is shown of the clients of the first names
-abbrev pub invariant-loop-user : goal.invariant-loop-user
-invariant-loop-user l = AreUsersDone l.lists l.user-items l.user-index
-    l.fn.report.differences.items l.report.differences.items

@@ -1,6 +1,0 @@
-use Rattle.mq_findings.proofs.MarkLemmas.{AreMarkedTo}
-use Rattle.mq_findings.proofs.marks.mark.Given as goal
-
--- the first are marked
-abbrev pub invariant-loop-place : goal.invariant-loop-place
-invariant-loop-place l = AreMarkedTo l.rows l.others l.place l.all.items
