@@ -1,10 +1,10 @@
 #!/usr/bin/env python3
 """Tries the must-fail edits that the gate leaves out: edits.py [CRATE..]
 
-They stand in dev/edits/CRATE, for crates that read arguments and hand on what the crates below
-decide. This puts them beside the crate's sources in a copy of the repository, and has `rt ci` try
-them there, which takes what is proved from where the toolchain keeps it. Ends with 0 where each is
-refused, and with 1 where one isn't, or can't be applied.
+They stand in dev/edits/CRATE (docs/explanation/gate.md says which they are). This puts them beside
+the crate's sources in a copy of the repository, and has `rt ci` try them there, which takes what is
+proved from where the toolchain keeps it. Ends with 0 where each is refused, and with 1 where one
+isn't, or can't be applied.
 """
 import pathlib
 import shutil

@@ -39,7 +39,7 @@ def built_answers(cases):
 
 
 def lay_out(cases, folder):
-    """Writes the cases as `rt try --cases` wants them; answers the options
+    """Writes the cases as `rt try --cases` reads them; answers the options
     that name the access lists."""
     options = []
     for number, (script, access_list) in enumerate(cases):

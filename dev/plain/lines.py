@@ -61,7 +61,7 @@ def json_of(line):
     try:
         text = line.decode()
         value = json.loads(text, parse_int=number, parse_float=number, parse_constant=no_constant)
-        json.dumps(value, ensure_ascii=False).encode()  # a lone surrogate is no character
+        json.dumps(value, ensure_ascii=False).encode()  # a lone surrogate isn't a character
     except (ValueError, RecursionError):
         raise Refused("BadJson") from None
     refuse_if(depth(text) > DEEPEST, "BadJson")
