@@ -1,5 +1,5 @@
 #!/usr/bin/env python3
-"""Names what is wrong in each line of a script that is no command."""
+"""Names what is wrong in each invalid line of a script."""
 import sys
 
 from mqroute_tools.cli import check

@@ -14,7 +14,7 @@ The program is `program`, or $MQROUTE, or the one that stands in the same clone 
         assert not live.run([{"do": "connect", "client": "a"}])
 
 `run` runs commands on a live broker at that port too, and gives what differs, as a list of
-Difference, each with `line`, `command` and `texts`; Fault says that it couldn't. It wants the
+Difference, each with `line`, `command` and `texts`; Fault says that it couldn't. It needs the
 package python3-paho-mqtt.
 """
 from mqroute_tools.common.exit_status import Fault

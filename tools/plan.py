@@ -1,5 +1,5 @@
 #!/usr/bin/env python3
-"""Asks about a change of topics: what a plan makes of topics, filters, access lists and scripts."""
+"""Shows what becomes of topics, filters, access lists and scripts if topics are renamed."""
 import sys
 
 from mqroute_tools.cli import plan

@@ -1,5 +1,5 @@
 #!/usr/bin/env python3
-"""Tells who loses (and who gains) what between two outputs of mqroute for one script."""
+"""Shows who loses (and who gains) what between two outputs of mqroute for one script."""
 import sys
 
 from mqroute_tools.cli import who_loses

@@ -26,7 +26,7 @@ SUBCOMMANDS = {
         "losses.who_loses", "shows who loses which copies between two runs of a script"),
     "why": Entry("why.why", "shows why a client was sent a message of a script, or wasn't"),
     "preview": Entry("preview.preview", "shows what a proposed access list would change"),
-    "plan": Entry("plan.plan", "shows what a change of topics makes of lists and scripts"),
+    "plan": Entry("plan.plan", "shows what becomes of lists and scripts if topics are renamed"),
     "replay": Entry("live.replay", "runs a script on a live broker and compares with mqroute"),
     "compare-log": Entry(
         "log.compare_log", "compares a mosquitto log's own copies with mqroute's"),

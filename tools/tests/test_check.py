@@ -1,4 +1,4 @@
-"""What is said of lines that are no commands; and that these are the lines
+"""What is said of invalid lines; and that these are the lines
 that the program refuses so."""
 import json
 import random
@@ -20,34 +20,34 @@ SAID = [
      ['publish has no field "QoS" (qos?)']),
     ({"do": "publish", "client": "a", "topic": "x", "when": 1}, ['publish has no field "when"']),
     ({"do": "stat", "client": "a"}, ['stat has no field "client"']),
-    ({"do": "publish", "topic": 1}, ['publish wants the field "client"', "topic is 1: no text"]),
+    ({"do": "publish", "topic": 1}, ['publish needs the field "client"', "topic is 1: not a text"]),
     ({"do": "subscribe", "client": "a", "filter": "x", "qos": 3}, ["qos is 3: not from 0 to 2"]),
     ({"do": "subscribe", "client": "a", "filter": "x", "id": 0},
      ["id is 0: not from 1 to 268,435,455"]),
     ({"do": "subscribe", "client": "a", "filter": "x", "rap": 1},
      ["rap is 1: neither true nor false"]),
-    ({"do": "advance", "seconds": 1.5}, ["seconds is 1.5: no whole number"]),
-    ({"do": "advance", "seconds": True}, ["seconds is true: no whole number"]),
-    ({"do": "advance"}, ['advance wants the field "seconds"']),
+    ({"do": "advance", "seconds": 1.5}, ["seconds is 1.5: not a whole number"]),
+    ({"do": "advance", "seconds": True}, ["seconds is true: not a whole number"]),
+    ({"do": "advance"}, ['advance needs the field "seconds"']),
     ({"do": "publsh", "client": "a"}, ['there is no command "publsh" (publish?)']),
     ({"do": 5}, ["there is no command 5"]),
     ({"client": "a", "command": "connect"}, ['"do" is missing ("command" is "connect")']),
     ({"client": "a"}, ['"do" is missing']),
-    ([{"do": "stat"}], ['[{"do": "stat"}] is no object']),
+    ([{"do": "stat"}], ['[{"do": "stat"}] is not an object']),
     ({"do": "acl", "text": "x" * 100, "texts": None}, ['acl has no field "texts"']),
     ({"do": "publish", "client": "a", "topic": ["x" * 100]},
-     ['topic is ["' + "x" * 58 + "..: no text"]),
+     ['topic is ["' + "x" * 58 + "..: not a text"]),
 ]
 TEXTS = [
-    (b'{"do":"stat"', "no JSON: expecting ',' delimiter, column 13"),
-    (b"{", "no JSON: each command is an object on one line"),
-    (b'\xef\xbb\xbf{"do":"stat"}', "no JSON: it begins with a byte order mark"),
-    (b'{"do":"\xff"}', "no JSON: byte 8 is not UTF-8"),
-    (b'{"do":"advance","seconds":NaN}', "no JSON: NaN is no number in JSON"),
-    (b'{"do":"advance","seconds":1e999}', "no JSON: the number 1e999 is too great"),
+    (b'{"do":"stat"', "not JSON: expecting ',' delimiter, column 13"),
+    (b"{", "not JSON: each command is an object on one line"),
+    (b'\xef\xbb\xbf{"do":"stat"}', "not JSON: it begins with a byte order mark"),
+    (b'{"do":"\xff"}', "not JSON: byte 8 is not UTF-8"),
+    (b'{"do":"advance","seconds":NaN}', "not JSON: NaN is not a number in JSON"),
+    (b'{"do":"advance","seconds":1e999}', "not JSON: the number 1e999 is too great"),
     (b'{"do":"connect","client":"\\ud800"}',
-     "no JSON: half of a surrogate pair stands alone in a text"),
-    (b"[" * 128 + b"]" * 128, "no JSON: nested deeper than 127"),
+     "not JSON: half of a surrogate pair stands alone in a text"),
+    (b"[" * 128 + b"]" * 128, "not JSON: nested deeper than 127"),
     (b" " * 1_048_577, "1,048,577 bytes, where 1,048,576 may be"),
 ]
 # Filters, each with what is wrong; by MQTT 5.0, 4.7.1 and 4.8.2.

@@ -245,7 +245,7 @@ class Numbers(unittest.TestCase):
             ("replay", "--port", "0", "must be 1 or more"),
             ("who_loses", "--depth", "-1", "must be 1 or more"),
             ("log_to_script", "--session-expiry", "4294967296", "must be at most 4294967295"),
-            ("replay", "--patience", "nan", "'nan' is no number"),
+            ("replay", "--patience", "nan", "'nan' is not a number"),
         ):
             words = [HERE / f"{tool}.py", option, value, "x", "y", "z"]
             done = subprocess.run([sys.executable, *words], capture_output=True, text=True)

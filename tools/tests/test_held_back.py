@@ -61,7 +61,7 @@ class HeldBack(unittest.TestCase):
     def held(self, text: str, output: str) -> list[str]:
         return [kind for kind in kinds(text, output) if kind != "the broker's own topics"]
 
-    def test_told_with_where_they_came(self):
+    def test_shown_with_where_they_came(self):
         found = [line for line in compared(log("held"), self.HELD) if line.startswith(self.LATE)]
         wanted = "{}: line {}: 'a' 'x/{}': broker q1 r0 (by line {}); mqroute q1 r0"
         places = (26, 2, 33), (28, 3, 34)

@@ -268,7 +268,7 @@ class Told(unittest.TestCase):
         self.assertIn("explains 1 by subscriptions in the log and 0 by inferred ones, and doesn't "
                       "explain 2\n", shown)
 
-    def test_nothing_is_told_of_a_whole_log(self):
+    def test_nothing_is_noted_of_a_whole_log(self):
         status, _, shown = self.run_tool(
             log=arrival("p") + arrival("b") + subscribing("b", ("x", 0)) + routed("x", "b"))
         self.assertEqual((status, len(shown.splitlines())), (0, 1))

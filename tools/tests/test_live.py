@@ -83,7 +83,7 @@ class WithoutPaho(unittest.TestCase):
             done = subprocess.run([sys.executable, "-c", code], cwd=folder, capture_output=True,
                                   text=True, env=os.environ | {"PYTHONPATH": str(HERE)})
             self.assertEqual((done.stdout, done.stderr),
-                             ("Live wants the package python3-paho-mqtt\n", ""))
+                             ("Live needs the package python3-paho-mqtt\n", ""))
 
 
 if __name__ == "__main__":

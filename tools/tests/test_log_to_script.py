@@ -112,7 +112,7 @@ class Leaving(Case):
             with self.subTest(end):
                 self.gives(arrival("a") + end + "\n", [{"do": "disconnect", "client": "a"}])
 
-    def test_told_twice(self):
+    def test_shown_twice(self):
         self.gives(arrival("a")
                    + "Bad socket read/write on client a: x\nClient a closed its connection.\n",
                    [{"do": "disconnect", "client": "a"}])

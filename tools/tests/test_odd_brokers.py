@@ -75,7 +75,7 @@ ODD = {  # what it says, replay's status, and a part of the line
     "closes later": (at(SUBSCRIBE, None), 1, "closed the connection of a;"),
     "DISCONNECT": (at(SUBSCRIBE, bytes.fromhex("e0 01 93")), 1,
                    "with a DISCONNECT of reason 147 (receive maximum exceeded)"),
-    "no UTF-8": (at(SUBSCRIBE, bytes.fromhex("30 05 00 02 ff fe 00")), 1, "no UTF-8"),
+    "not UTF-8": (at(SUBSCRIBE, bytes.fromhex("30 05 00 02 ff fe 00")), 1, "not UTF-8"),
     "length": (at(SUBSCRIBE, bytes.fromhex("30 ff ff ff ff 01")), 1, "over 4 bytes"),
     "two CONNACKs": (at(SUBSCRIBE, CONNACK), 1, "a second CONNACK"),
     "another packet's": (at(SUBSCRIBE, bytes.fromhex("90 04 ff ff 00 00")), 1,

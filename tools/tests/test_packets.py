@@ -16,7 +16,7 @@ class Packets(unittest.TestCase):
         "20 00 01 00": "with reason 1,", "20 00 00": "of MQTT 3.1.1",
         "21 00 00 00": "with the flags 1",
         "20 00 00 02 24 02": "with a Maximum QoS of 2", "36 00 01 78 00 01 00": "with QoS 3",
-        "38 00 01 78 00": "with QoS 0 and DUP", "30 00 02 ff fe 00": "no UTF-8",
+        "38 00 01 78 00": "with QoS 0 and DUP", "30 00 02 ff fe 00": "not UTF-8",
         "30 00 01 2b 00": "with the topic '+'", "30 00 00 00": "with the topic ''",
         "30 00 01 00 00": "U+0000", "32 00 01 78 00 00 00": "with the packet identifier 0",
         "30 00 01 78 02 7f 01": "with property 127,",

@@ -1,5 +1,5 @@
 """Each tool's manual page has the options that its --help has, and no other; those of the programs
-explain each text that they tell on standard error; and what is installed is what is taken out."""
+explain each text that they print on standard error; and what is installed is what is taken out."""
 import os
 import re
 import shutil
@@ -12,7 +12,7 @@ from pathlib import Path
 from test_command_line import help_behind_name
 from worked import HERE, TOP
 
-# which make install wants
+# which make install needs
 BUILT = [TOP / f"crates/{name}/out/{name}" for name in ("mqroute", "mqroute_acl")]
 TOOLS = ("log_to_script", "who_loses", "why", "preview", "plan", "replay", "compare_log", "check",
          "search", "tools")
@@ -46,7 +46,7 @@ def options_of(tool: str) -> set[str]:
 
 
 def help_of(tool: str, *words: str) -> str:
-    """Without python3-paho-mqtt, which no --help wants."""
+    """Without python3-paho-mqtt, which no --help needs."""
     with tempfile.TemporaryDirectory() as folder:
         Path(folder, "paho.py").write_text("raise ImportError")
         done = subprocess.run([sys.executable, HERE / f"{tool}.py", *words, "--help"],
@@ -117,7 +117,7 @@ class Pages(unittest.TestCase):
 
 
 # The programs, each with the source of the texts that it shows on standard error.
-TOLD = {"mqroute": "mq_cli/src/failure.rt", "mqroute-acl": "mq_acl_answers/src/failure.rt"}
+SHOWN_BY = {"mqroute": "mq_cli/src/failure.rt", "mqroute-acl": "mq_acl_answers/src/failure.rt"}
 
 
 def diagnostics(program: str) -> list[str]:
@@ -138,7 +138,7 @@ def pattern(shown: str) -> str:
 
 class Diagnostics(unittest.TestCase):
     def test_each_text_is_explained(self):
-        for program, source in TOLD.items():
+        for program, source in SHOWN_BY.items():
             shown = re.findall(
                 r'#\[error\("(.*?)"(?:, .*)?\)\]', (TOP / "crates" / source).read_text("utf-8"))
             lines = diagnostics(program)

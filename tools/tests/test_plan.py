@@ -98,7 +98,7 @@ line  rule                                               topics  publishes  firs
    2  plant/+hall/energy  -> site/a/+hall/meters/energy       2          2  plant/hall-1/energy
    4  plant/+hall/door    -> site/a/+hall/doors/state         1          1  plant/hall-1/door
       keep their names                                        1          2  command/meter-17/reset
-no topic of it: lines 3, 5, 7, 8
+lines with no topic there: 3, 5, 7, 8
 
 Subscriptions of script.jsonl: 4, of which 1 stay, 2 become one other that matches exactly what \
 they did
@@ -482,7 +482,7 @@ class LossesRefused(Case):
     def test_usage(self):
         words = ["script.jsonl", "before", "after"]
         for said, options in (("--plan and --new go together", ["--plan", "plan"]),
-                              ("--by goes without --plan",
+                              ("--by can't be used with --plan",
                                ["--plan", "plan", "--new", "new", "--by", "user"])):
             self.refused(said, *options, *words, tool="who_loses.py")
         self.write("new.jsonl", SCRIPT + "\n")

@@ -189,8 +189,9 @@ class Plant(Folder):
         found = self.done("check", "plan", "--script", "day.jsonl").stdout
         self.assertEqual(found.split("\n\n")[0], "plan:14: line 12 matches plant/x/door/order too, "
                                                  "and decides; the same with line 13")
-        self.assertIn("\nno topic of it: lines 3, 4, 5, 6, 32\n\nSubscriptions of day.jsonl: 88, "
-                      "of which 3 stay, 83 become one other that matches exactly what they did\n",
+        self.assertIn("\nlines with no topic there: 3, 4, 5, 6, 32\n\n"
+                      "Subscriptions of day.jsonl: 88, of which 3 stay, "
+                      "83 become one other that matches exactly what they did\n",
                       found)
         self.assertTrue(found.endswith("\n\n" + ODD))
 

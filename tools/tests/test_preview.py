@@ -135,7 +135,7 @@ class Text(Case):
             self.assertEqual([int(words[1]), int(words[2])], numbers)
 
     def test_nothing_changes(self):
-        """A new remark alone is no change; each is said once."""
+        """New remarks don't count as changes; each is said once."""
         again = self.shown("old.acl", "old.acl", "script")
         self.write("remarked.acl", CURRENT + "topic write plant/+/state\n")
         for done in (again, self.shown("old.acl", "remarked.acl", "script")):
@@ -323,11 +323,11 @@ class Files(Case):
 
     def test_usage(self):
         for said, words in (
-                ("wants one script, or one log or more", ["script", "script"]),
-                ("--begin wants a log", ["script", "--begin", "script"]),
-                ("--session-expiry wants a log", ["script", "--session-expiry", "0"]),
+                ("needs one script, or one log or more", ["script", "script"]),
+                ("--begin needs a log", ["script", "--begin", "script"]),
+                ("--session-expiry needs a log", ["script", "--session-expiry", "0"]),
                 ("standard input can be read once", ["-", "--begin", "-"]),
-                ("--title wants --html", ["script", "--title", "x"]),
+                ("--title needs --html", ["script", "--title", "x"]),
                 ("--html names a file that --keep writes",
                  ["script", "--html", "kept/after", "--keep", "kept"])):
             with self.subTest(said):

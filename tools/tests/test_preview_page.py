@@ -68,7 +68,7 @@ class Page(Case):
         self.assertEqual([number(text) for text in page["counts"]],
                          [cause["count"] for row in (*users, *refused) for cause in row["causes"]])
         for name, table in (("granted", "granted"), ("taken", "taken"), ("remarks", "remarks"),
-                            ("subscriptions", "in-vain")):
+                            ("subscriptions", "receive-nothing")):
             self.assertEqual(len(page["tables"].get(table, [])), len(found[name]), name)
         self.assertEqual(page["summary"], found["summary"])
 

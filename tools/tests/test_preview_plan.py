@@ -176,7 +176,7 @@ class Renamed(Case):
             r"<table id='([a-z-]+)'.*?<tbody[^>]*>(.*?)</tbody>", page, re.S)}
         self.assertEqual(tables, {
             "users": 2 * len(found["users"]), "granted": len(found["granted"]),
-            "taken": len(found["taken"]), "in-vain": len(found["subscriptions"]),
+            "taken": len(found["taken"]), "receive-nothing": len(found["subscriptions"]),
             "carried": len(found["carried"]), "remarks": len(found["remarks"])})
         self.assertEqual(page.count("<dt><bdi>plan"), len(found["granted"] + found["taken"]))
         text = html.unescape(re.sub(r"<[^>]*>", "", page))

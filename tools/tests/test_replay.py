@@ -40,7 +40,7 @@ class WithoutPaho(unittest.TestCase):
                 [sys.executable, HERE / "replay.py", "x", "y"], capture_output=True, text=True,
                 env=os.environ | {"PYTHONPATH": folder})
             self.assertEqual((done.returncode, done.stderr),
-                             (2, "replay: wants the package python3-paho-mqtt\n"))
+                             (2, "replay: needs the package python3-paho-mqtt\n"))
 
 
 class OnABroker(unittest.TestCase):

@@ -67,10 +67,10 @@ class Reading(unittest.TestCase):
         write_case(self.folder, "one", "right", RIGHT)
         place = Path(self.folder, "one")
         for name, text, said in (
-                ("cases.json", "{", "no JSON"),
-                ("cases.json", "[]", 'wants an object with "title"'),
+                ("cases.json", "{", "not JSON"),
+                ("cases.json", "[]", 'must be an object with "title"'),
                 ("cases.json", '{"cases":{"none":{}}}', "there is no none.jsonl"),
-                ("cases.json", '{"cases":{"right":{"free":{"x":"y"}}}}', '"free" wants lines'),
+                ("cases.json", '{"cases":{"right":{"free":{"x":"y"}}}}', '"free" must have lines'),
                 ("right.out", '{"line":1,"reason":0}\n', "another number of lines"),
                 ("right.jsonl", lines(RIGHT) + "\n" + lines(RIGHT), ":4: blank"),
                 ("right.jsonl", "{}\n", ':1: "do" is missing'),
@@ -198,11 +198,11 @@ class OnMosquitto(OnABroker):
             2, "replay: the command of --start: it ended with status 3; no broker\n"))
 
     def test_usage(self):
-        for words, said in ((["--all", "x", "script"], "--all goes without SCRIPT"),
-                            (["--all", "x", "--wills"], "--all goes without --wills"),
-                            (["--all", "x", "--tap", "--json"], "--tap goes without --json"),
-                            (["--tap", "script", "output"], "--tap wants --all"),
-                            (["script"], "wants SCRIPT and OUTPUT, or --all FOLDER")):
+        for words, said in ((["--all", "x", "script"], "--all can't be used with SCRIPT"),
+                            (["--all", "x", "--wills"], "--all can't be used with --wills"),
+                            (["--all", "x", "--tap", "--json"], "--tap can't be used with --json"),
+                            (["--tap", "script", "output"], "--tap needs --all"),
+                            (["script"], "needs SCRIPT and OUTPUT, or --all FOLDER")):
             done = subprocess.run(
                 [PAHO, HERE / "replay.py", *words], capture_output=True, text=True)
             self.assertEqual(done.returncode, 2)

@@ -100,7 +100,7 @@ class Finds(unittest.TestCase):
         return found
 
     def test_what_is_found_is_known_then(self):
-        """Saved finds are passed over, and are listed as seen; another bug isn't passed over."""
+        """Saved finds are skipped, and are listed as seen; another bug isn't skipped."""
         with tempfile.TemporaryDirectory() as folder:
             number = len(self.saved(expiry_0_is_none, folder))
             self.assertTrue(0 < number < 12 and Path(folder, "find-1.out").exists())
@@ -225,7 +225,7 @@ class Known(unittest.TestCase):
     def test_faults(self):
         for more, said in (({".diff": "no\n"}, "one.diff:1: not of one.jsonl"),
                            ({".diff": self.DIFF.replace("3", "4")}, "not of one.jsonl"),
-                           ({".jsonl": "{", ".diff": self.DIFF}, "one.jsonl:1: no JSON")):
+                           ({".jsonl": "{", ".diff": self.DIFF}, "one.jsonl:1: not JSON")):
             with self.assertRaisesRegex(Fault, said):
                 self.known(more)
         with self.assertRaisesRegex(Fault, "there is no folder /nowhere"):

@@ -180,7 +180,7 @@ class Why(unittest.TestCase):
         self.assertIn(f"the nearest 1 s before ({log}:803) and 2 s after ({log}:962)", done.stderr)
 
     def test_lines_of_a_log(self):
-        """What is named are the lines that tell of it; what none shows is said to be inferred,
+        """What is named are the lines that show it; what none shows is said to be inferred,
         as in a log whose beginning is missing."""
         name, topic = "plain.log", "plant/hall-2/energy"
         lines = (TOP / "brokers/recorded" / name).read_text("utf-8").split("\n")
@@ -242,13 +242,15 @@ class Why(unittest.TestCase):
                             (["nowhere", "1"], "nowhere: No such file or directory"),
                             (["--acl-file=script", "script", "3"], "mqroute: access list script "
                              "line 1: Keyword"),
-                            (["script"], "wants SCRIPT and LINE, or --log"),
-                            (["--topic=x", "script", "3"], "--topic wants --log"),
+                            (["script"], "needs SCRIPT and LINE, or --log"),
+                            (["--topic=x", "script", "3"], "--topic needs --log"),
                             (["--session-expiry=0", "script", "3"],
-                             "--session-expiry wants --log"),
-                            (["--log=x", "script", "3"], "--log goes without SCRIPT and LINE"),
-                            (["--log=x", "--topic=x"], "--log wants --topic and --at"),
-                            (["script", "3", "c", "--client=c"], "--client goes without CLIENT")):
+                             "--session-expiry needs --log"),
+                            (["--log=x", "script", "3"],
+                             "--log can't be used with SCRIPT and LINE"),
+                            (["--log=x", "--topic=x"], "--log needs --topic and --at"),
+                            (["script", "3", "c", "--client=c"],
+                             "--client can't be used with CLIENT")):
             done = self.why(script, *words)
             self.assertEqual((done.returncode, done.stdout), (2, ""))
             self.assertIn(said, done.stderr)

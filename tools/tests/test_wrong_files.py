@@ -30,7 +30,7 @@ class Kinds(unittest.TestCase):
             self.assertEqual(kind(text.encode()), what, text)
         self.assertEqual(kind(gzip.compress(b"x")), "a file packed by gzip")
         self.assertEqual(kind("x\n".encode("utf-16")), "text in UTF-16")
-        self.assertEqual(kind(b"\x7fELF\0\0"), "a file of bytes that are no text")
+        self.assertEqual(kind(b"\x7fELF\0\0"), "a file of bytes that are not text")
 
     def test_each_recorded_log_has_lines_of_mosquitto_alone(self):
         """In each stretch of a log that a broker wrote some line is known as its own."""

@@ -17,7 +17,7 @@ wants_program = unittest.skipUnless(PROGRAM.exists(), f"there is no {PROGRAM}")
 UNBUFFERED = PROGRAM.exists() and "--unbuffered" in subprocess.run(
     [PROGRAM, "--help"], capture_output=True, text=True).stdout
 wants_unbuffered = unittest.skipUnless(UNBUFFERED, "the program has no --unbuffered")
-LINE_FAULTS = (1, 2, 3, 4)  # codes of lines that are no commands
+LINE_FAULTS = (1, 2, 3, 4)  # codes of invalid lines
 TEXT_FAULTS = (5, 6, 8, 9, 10)  # and of those with a text that is none
 
 

@@ -36,7 +36,7 @@ def run(work: Callable[[], int]) -> int:
         discard_output()
         say("stopped")
         return interrupt.STOPPED
-    except BrokenPipeError:  # who reads standard output wants no more, as `head`
+    except BrokenPipeError:  # the reader of standard output has gone, as `head` goes
         discard_output()
         return FAILED
     except (OSError, Fault) as fault:

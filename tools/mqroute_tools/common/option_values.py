@@ -11,7 +11,7 @@ def whole_number(low: int, high: int | None = None) -> Callable[[str], int]:
     def number(text: str) -> int:
         digits = text.removeprefix("-")
         if not (digits.isascii() and digits.isdigit()):
-            raise argparse.ArgumentTypeError(f"{text!r} is no whole number")
+            raise argparse.ArgumentTypeError(f"{text!r} is not a whole number")
         if int(text) < low:
             raise argparse.ArgumentTypeError(f"must be {low} or more")
         if high is not None and int(text) > high:
@@ -27,7 +27,7 @@ def amount(text: str) -> float:
     except ValueError:
         number = math.nan
     if not math.isfinite(number):
-        raise argparse.ArgumentTypeError(f"{text!r} is no number")
+        raise argparse.ArgumentTypeError(f"{text!r} is not a number")
     if number < 0:
         raise argparse.ArgumentTypeError("must be 0 or more")
     return number

@@ -28,7 +28,7 @@ from .wills import Wills
 FENCE = "mqroute/fence"
 FEW = 10  # clients that are asked by it after every line, whether or not the line concerns them
 MOMENT = 0.02  # seconds
-QUIET_ROUNDS = 2  # a copy of QoS 2 wants two fences: one for PUBLISH, one for PUBREL
+QUIET_ROUNDS = 2  # a copy of QoS 2 needs two fences: one for PUBLISH, one for PUBREL
 MOST_ROUNDS = 20  # in each of which more comes, before that may be too long
 ACL_PAUSE = 0.3  # seconds that a broker gets to read an access list
 LONGEST_PAUSE = 86_400  # seconds that an `advance` may take, in real time

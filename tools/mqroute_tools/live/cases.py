@@ -65,9 +65,9 @@ def read_index(folder: Path) -> dict[str, Any]:
     try:
         index = json.loads(file.read_text("utf-8"))
     except (ValueError, UnicodeDecodeError) as fault:
-        raise Fault(f"{file}: no JSON: {fault}") from fault
+        raise Fault(f"{file}: not JSON: {fault}") from fault
     if not isinstance(index, dict) or not isinstance(index.get("cases", {}), dict):
-        raise Fault(f'{file}: wants an object with "title" and "cases"')
+        raise Fault(f'{file}: must be an object with "title" and "cases"')
     return index
 
 
@@ -81,7 +81,7 @@ def read_case(file: Path, section: str, about: dict[str, Any]) -> Case:
     try:
         free = {int(line): str(why) for line, why in about.get("free", {}).items()}
     except (ValueError, AttributeError) as fault:
-        raise Fault(f'{file.parent / INDEX}: {file.stem}: "free" wants lines') from fault
+        raise Fault(f'{file.parent / INDEX}: {file.stem}: "free" must have lines') from fault
     text = acl.read_bytes().decode("utf-8") if acl.exists() else None
     return Case(section, file.stem, script, expected, text, file.with_suffix(".options").exists(),
                 str(about.get("says", "")), tuple(map(str, about.get("sections", []))),

@@ -1,4 +1,4 @@
-"""Runs cases on a broker: all on one, each with names of its own, or each on one begun anew."""
+"""Runs cases on a broker: all on one, each with names of its own, or each on a fresh one."""
 import contextlib
 import time
 from collections.abc import Iterable, Iterator
@@ -81,7 +81,7 @@ class CorpusRun:
 
     def why_left_out(self, case: Case) -> str:
         if case.has_limits:
-            return "it wants a broker with limits of its own"
+            return "it needs a broker with limits of its own"
         if case.has_lists() and not self.options.on_acl:
             return "it has an access list: give --on-acl"
         return ""

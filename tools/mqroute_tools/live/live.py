@@ -34,8 +34,8 @@ class Live:
 
     def __init__(self, port: int, oracle: Oracle | None = None, **more: Any) -> None:
         if importlib.util.find_spec("paho") is None:
-            raise ModuleNotFoundError("Live wants the package python3-paho-mqtt")
-        from .live_broker import LiveBroker  # wants paho
+            raise ModuleNotFoundError("Live needs the package python3-paho-mqtt")
+        from .live_broker import LiveBroker  # needs paho
         self.options = BrokerOptions(more.pop("host", "127.0.0.1"), port, **more)
         self.broker = LiveBroker(self.options)
         self.oracle = oracle or Oracle()

@@ -11,7 +11,7 @@ AWAITED = (PUBACK, PUBREC, PUBCOMP, SUBACK, UNSUBACK)  # by what was sent
 ACKNOWLEDGED = (PUBACK, PUBREC, PUBREL, PUBCOMP)
 MQTT_5, MQTT_3_1_1 = "5", "3.1.1"
 FAILURE = 128  # the reason codes from here on say that something failed
-# The reason codes that are no failure, and those that are.
+# The reason codes of success, and those of failure.
 SUCCESS = {CONNACK: (0,), PUBACK: (0, 16), PUBREC: (0, 16), PUBREL: (0,), PUBCOMP: (0,),
            SUBACK: (0, 1, 2), UNSUBACK: (0, 17), DISCONNECT: (0,)}
 FAILURES = {
@@ -74,7 +74,7 @@ class Reader:
         try:
             text = data.decode("utf-8")
         except UnicodeDecodeError as fault:
-            raise Malformed(f"with a text that is no UTF-8 ({data.hex(' ')})") from fault
+            raise Malformed(f"with a text that is not UTF-8 ({data.hex(' ')})") from fault
         if "\0" in text:
             raise Malformed("with a text that has U+0000")
         return text
@@ -110,31 +110,31 @@ def pair(reader: Reader) -> tuple[str, str]:
 
 ALL = (CONNACK, PUBLISH, *ACKNOWLEDGED, SUBACK, UNSUBACK, DISCONNECT)
 REASONED = tuple(kind for kind in ALL if kind != PUBLISH)
-SAYS, TOLD = (CONNACK,), (PUBLISH,)
+IN_CONNACK, IN_PUBLISH = (CONNACK,), (PUBLISH,)
 PROPERTIES = {  # those that a broker may send
-    1: Property("Payload Format Indicator", one, TOLD, high=1),
-    2: Property("Message Expiry Interval", four, TOLD),
-    3: Property("Content Type", Reader.text, TOLD),
-    8: Property("Response Topic", Reader.text, TOLD),
-    9: Property("Correlation Data", Reader.binary, TOLD),
-    11: Property("Subscription Identifier", Reader.variable, TOLD, low=1, repeated=True),
-    17: Property("Session Expiry Interval", four, SAYS),
-    18: Property("Assigned Client Identifier", Reader.text, SAYS),
-    19: Property("Server Keep Alive", two, SAYS),
-    21: Property("Authentication Method", Reader.text, SAYS),
-    22: Property("Authentication Data", Reader.binary, SAYS),
-    26: Property("Response Information", Reader.text, SAYS),
+    1: Property("Payload Format Indicator", one, IN_PUBLISH, high=1),
+    2: Property("Message Expiry Interval", four, IN_PUBLISH),
+    3: Property("Content Type", Reader.text, IN_PUBLISH),
+    8: Property("Response Topic", Reader.text, IN_PUBLISH),
+    9: Property("Correlation Data", Reader.binary, IN_PUBLISH),
+    11: Property("Subscription Identifier", Reader.variable, IN_PUBLISH, low=1, repeated=True),
+    17: Property("Session Expiry Interval", four, IN_CONNACK),
+    18: Property("Assigned Client Identifier", Reader.text, IN_CONNACK),
+    19: Property("Server Keep Alive", two, IN_CONNACK),
+    21: Property("Authentication Method", Reader.text, IN_CONNACK),
+    22: Property("Authentication Data", Reader.binary, IN_CONNACK),
+    26: Property("Response Information", Reader.text, IN_CONNACK),
     28: Property("Server Reference", Reader.text, (CONNACK, DISCONNECT)),
     31: Property("Reason String", Reader.text, REASONED),
-    33: Property("Receive Maximum", two, SAYS, low=1),
-    34: Property("Topic Alias Maximum", two, SAYS),
-    36: Property("Maximum QoS", one, SAYS, high=1),
-    37: Property("Retain Available", one, SAYS, high=1),
+    33: Property("Receive Maximum", two, IN_CONNACK, low=1),
+    34: Property("Topic Alias Maximum", two, IN_CONNACK),
+    36: Property("Maximum QoS", one, IN_CONNACK, high=1),
+    37: Property("Retain Available", one, IN_CONNACK, high=1),
     38: Property("User Property", pair, ALL, repeated=True),
-    39: Property("Maximum Packet Size", four, SAYS, low=1),
-    40: Property("Wildcard Subscription Available", one, SAYS, high=1),
-    41: Property("Subscription Identifiers Available", one, SAYS, high=1),
-    42: Property("Shared Subscription Available", one, SAYS, high=1)}
+    39: Property("Maximum Packet Size", four, IN_CONNACK, low=1),
+    40: Property("Wildcard Subscription Available", one, IN_CONNACK, high=1),
+    41: Property("Subscription Identifiers Available", one, IN_CONNACK, high=1),
+    42: Property("Shared Subscription Available", one, IN_CONNACK, high=1)}
 
 
 def properties(reader: Reader, packet: int) -> None:

@@ -15,7 +15,7 @@ try:
     from paho.mqtt.properties import Properties
     from paho.mqtt.subscribeoptions import SubscribeOptions
 except ImportError:
-    say("wants the package python3-paho-mqtt")
+    say("needs the package python3-paho-mqtt")
     sys.exit(FAILED)
 
 from ..script.output import Command
@@ -38,7 +38,7 @@ class Client(mqtt.Client):
     shows the reasons of PUBACK, PUBREC and DISCONNECT, which not every paho does."""
 
     def __init__(self, name: str, options: BrokerOptions, **more: Any) -> None:
-        versions = getattr(mqtt, "CallbackAPIVersion", None)  # paho 2 wants to know
+        versions = getattr(mqtt, "CallbackAPIVersion", None)  # paho 2 asks for it
         with warnings.catch_warnings():
             warnings.simplefilter("ignore", DeprecationWarning)
             super().__init__(

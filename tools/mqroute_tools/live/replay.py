@@ -28,7 +28,7 @@ from .run_ends import RunEnds
 from .wills import Wills
 
 if TYPE_CHECKING:
-    from .broker_run import Replay  # wants paho
+    from .broker_run import Replay  # needs paho
 
 Line = tuple[int, Command, Block]
 LINE = re.compile(r"\Aline (\d+):? ")  # how a fault of a live run begins
@@ -67,7 +67,7 @@ def runnable(script: Iterable[bytes], given: Iterator[Block],
 
 def offered(replay: "Replay", options: argparse.Namespace, script: list[bytes],
             given: list[Block], lines: list[Line]) -> list[Line]:
-    """The lines as this broker can run them. Where it lacks something mqroute answers anew."""
+    """The lines as this broker can run them. Where it lacks something mqroute answers again."""
     from .script_fitting import fitted_script, read_list
     fitted, shown = fitted_script(script, {number for number, _, _ in lines}, replay.offer)
     if not shown:
@@ -183,7 +183,7 @@ def add_arguments(parser: argparse.ArgumentParser) -> None:
 def run(options: argparse.Namespace) -> int:
     look_at_options(options)
     if options.all:
-        from .replay_all import run_all  # wants paho
+        from .replay_all import run_all  # needs paho
         return run_all(options)
     return run_one(options)
 
@@ -191,7 +191,7 @@ def run(options: argparse.Namespace) -> int:
 def run_one(options: argparse.Namespace) -> int:
     refuse_stdin_twice([options.script, options.output])
     keep_apart([options.script, options.output, options.acl_file])
-    from .broker_run import Replay  # wants paho
+    from .broker_run import Replay  # needs paho
     replay = Replay(BrokerOptions.of(options))
     try:
         status = 1 if compared(replay, options) else 0

@@ -35,10 +35,10 @@ def look_at_options(options: argparse.Namespace) -> None:
         return [f"--{name.replace('_', '-')}" for name in names if getattr(options, name)]
     if options.all is None:
         if given(OF_ALL):
-            raise UsageFault(f"{given(OF_ALL)[0]} wants --all")
+            raise UsageFault(f"{given(OF_ALL)[0]} needs --all")
         if options.output is None:
-            raise UsageFault("wants SCRIPT and OUTPUT, or --all FOLDER")
+            raise UsageFault("needs SCRIPT and OUTPUT, or --all FOLDER")
     elif options.script is not None or given(OF_ONE):
-        raise UsageFault(f"--all goes without {(given(OF_ONE) or ['SCRIPT and OUTPUT'])[0]}")
+        raise UsageFault(f"--all can't be used with {(given(OF_ONE) or ['SCRIPT and OUTPUT'])[0]}")
     elif options.tap and options.json:
-        raise UsageFault("--tap goes without --json")
+        raise UsageFault("--tap can't be used with --json")

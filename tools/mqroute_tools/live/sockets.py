@@ -8,7 +8,7 @@ from .paho_client import Connection
 
 
 def allow_many_files() -> None:
-    """As many open files as the system lets this process have: a client wants one."""
+    """As many open files as the system lets this process have: each client needs one."""
     _, most = resource.getrlimit(resource.RLIMIT_NOFILE)
     with contextlib.suppress(OSError, ValueError):  # where that is more than the system bears
         resource.setrlimit(resource.RLIMIT_NOFILE, (most, most))

@@ -6,7 +6,7 @@ from dataclasses import dataclass, field
 from ..script.output import Command
 from ..script.sessions import FOREVER
 
-UNTOLD = FOREVER - 1  # of a session of MQTT 5 of which the log doesn't tell whether it is kept
+UNSHOWN = FOREVER - 1  # of a session of MQTT 5 of which the log doesn't show whether it is kept
 WITHOUT_RETAINED = 2  # Retain Handling: nothing is sent at the subscribe
 
 
@@ -54,8 +54,8 @@ class State:
             return
         elif do == "disconnect":
             client.connected = False
-            client.ends = None if client.expiry >= UNTOLD else self.now + client.expiry
-            if not client.expiry or (client.expiry == UNTOLD and not client.subscriptions):
+            client.ends = None if client.expiry >= UNSHOWN else self.now + client.expiry
+            if not client.expiry or (client.expiry == UNSHOWN and not client.subscriptions):
                 del self.clients[name]
         elif do == "subscribe":
             client.subscriptions[command["filter"]] = command
@@ -93,12 +93,12 @@ class State:
                 yield from self.client_commands(name, client)
 
     def at_end(self) -> Iterator[Command]:
-        """What the next log begins with. Sessions of which two logs don't tell whether they are
-        kept are given up; of a client that is connected the next CONNACK will tell."""
+        """What the next log begins with. Sessions of which two logs don't show whether they are
+        kept are given up; of a client that is connected the next CONNACK will show it."""
         for name, client in list(self.clients.items()):
-            if client.expiry == UNTOLD and client.connected:
+            if client.expiry == UNSHOWN and client.connected:
                 client.expiry = 0
-            elif client.expiry == UNTOLD and client.older:
+            elif client.expiry == UNSHOWN and client.older:
                 del self.clients[name]
         return self.commands()
 

@@ -1,6 +1,7 @@
 """The clients as the script has them: the commands of their coming and going."""
 import re
 from collections.abc import Mapping
+from functools import lru_cache
 from typing import Any
 
 from ..script.output import Command
@@ -14,6 +15,7 @@ MQTT_3_1 = 1  # as the log has it: 1 is 3.1, 2 is 3.1.1, 5 is 5
 
 SEEN, INFERRED, NONE = range(3)  # what explains a copy
 REASONS = 10_000  # of which each client's last ones are remembered
+REMEMBERED = 1 << 12  # filters with a topic
 
 
 class Inferred(dict[str, Any]):
@@ -76,9 +78,15 @@ class Session:
 
 def any_matches(names: set[str], topic: str) -> bool:
     for name in names:
-        if matches(plain_filter(name), topic):
+        if covers(name, topic):
             return True
     return False
+
+
+@lru_cache(REMEMBERED)
+def covers(name: str, topic: str) -> bool:
+    """Whether a filter matches a topic, or the filter of a shared subscription."""
+    return matches(plain_filter(name), topic)
 
 
 class Arrival:
@@ -106,18 +114,23 @@ class Clients:
         self.away: dict[str, Session] = {}
         self.closing: dict[str, int] = {}  # websockets whose end is yet to be logged
         self.departed: dict[str, Session] = {}  # websockets with a will that sent DISCONNECT
-        self.ended: str | None = None  # whose end the lines tell, as long as only copies follow
+        self.ended: str | None = None  # whose end the lines show, as long as only copies follow
         self.seen_before: set[str] = set()
         self.notes = Notes()
 
     def emit(self, place: int, command: Command, routed: bool | None = True) -> None:
         """Writes a command; `routed` is whether the broker routed a publish, None
-        where the log doesn't tell."""
+        where the log doesn't show it."""
+        if self.time != self.now:
+            self.advance(place)
+        self.commands.append((place, command))
+
+    def advance(self, place: int) -> None:
+        """The script's clock goes on to the time of the log."""
         if self.time is not None:
             if self.now is not None and self.time > self.now:
                 self.commands.append((place, {"do": "advance", "seconds": self.time - self.now}))
             self.now = max(self.now or self.time, self.time)
-        self.commands.append((place, command))
 
     def session(self, client: str) -> Session:
         """The client's session; of one that was connected before the log began, a new one."""
@@ -154,7 +167,7 @@ class Clients:
             old = self.away.pop(client, None)
         # in the script; the broker may have lost it, as by a new start
         had_one = old is not None and old.kept
-        # whose CONNACK doesn't tell
+        # whose CONNACK doesn't show it
         resumed = present or (had_one and not clean and protocol == MQTT_3_1)
         if not clean and (resumed or not had_one):
             command["clean"] = False

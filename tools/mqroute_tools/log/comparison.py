@@ -1,6 +1,6 @@
 """What differs between a log's own copies and mqroute's, step by step, and of which kind it is."""
 from collections import Counter, defaultdict
-from collections.abc import Iterable
+from collections.abc import Iterable, Set
 
 from ..script.output import Command, Key
 from ..script.sessions import Sessions
@@ -9,8 +9,11 @@ from .difference_kinds import (
     BROKERS_TOPIC, CUT_OFF, DIFFERENT, HELD_BACK, LOGGED_WILL, MEMBERS_TURN, OWN_WILL,
     RETAINED_FOR_GROUP, TESTED_AGAIN, joined, kind, own_will)
 from .held_back import Backlog, Owed
-from .report_line import Line
-from .steps import Copy, Event, Step
+from .report_line import Line, differ
+from .steps import Copy, Event, Step, copy_of
+
+
+NOBODY: frozenset[str] = frozenset()
 
 
 def is_alike(copy: Copy, other: Copy) -> bool:
@@ -35,29 +38,33 @@ class Comparison:
         broker, mqroute = step.broker, step.mqroute
         resumes, again = self.follow(step.commands)
         drained, cut = self.receive(step, resumes)
-        for key in sorted(broker.copies.keys() | mqroute.copies.keys()):
+        keys = broker.copies.keys() | mqroute.copies.keys()
+        for key in sorted(keys) if len(keys) > 1 else keys:
             client = key[0]
-            line = Line(step.place, key, broker.copies[key], mqroute.copies[key])
-            if line.ours and own_will(step, key):
-                self.own_wills[*key, line.ours[0].size] = self.spread(step, key)
-            if line.differs():
-                line.kind = self.kind(step, key)
-                if line.kind == DIFFERENT and client in again and not line.theirs:
-                    line.kind = TESTED_AGAIN
-                if line.kind == DIFFERENT and step.renamed:
-                    line.kind = TESTED_AGAIN
-            waits = (client in step.flying or client in self.renamed) and client not in drained
-            owed = (client in cut or waits) and self.owe(step, line, client in again, client in cut)
-            if line.kind or owed:
-                self.found.append(line)
-        self.add_refusals(step)
+            theirs, ours = broker.copies[key], mqroute.copies[key]
+            if ours and len(step.commands) > 1 and own_will(step, key):
+                self.own_wills[*key, ours[0].size] = self.spread(step, key)
+            waits = client in cut or (
+                client not in drained and (client in step.flying or client in self.renamed))
+            if waits or differ(theirs, ours):
+                line = Line(step.place, key, theirs, ours)
+                self.add_line(step, line, client in again, waits, client in cut)
+        if broker.refused != mqroute.refused:
+            self.add_refusals(step)
+        self.refused += len(broker.refused)
+
+    def add_line(self, step: Step, line: Line, again: bool, waits: bool, cut: bool) -> None:
+        """One that differs, or of which more may come; `again` and `cut` are as in `owe`."""
+        if line.differs():
+            line.kind = self.kind(step, line.key)
+            if line.kind == DIFFERENT and ((again and not line.theirs) or step.renamed):
+                line.kind = TESTED_AGAIN
+        owed = waits and self.owe(step, line, again, cut)
+        if line.kind or owed:
+            self.found.append(line)
 
     def add_refusals(self, step: Step) -> None:
-        theirs, ours = step.broker.refused, step.mqroute.refused
-        self.refused += len(theirs)
-        if theirs == ours:
-            return
-        one, other = Counter(theirs), Counter(ours)
+        one, other = Counter(step.broker.refused), Counter(step.mqroute.refused)
         for client, topic in sorted((one - other) + (other - one)):
             who = "the broker" if one[client, topic] else "mqroute"
             self.refusals.append(f"refused by {who} alone: line {step.place}: {client!r} {topic!r}")
@@ -66,13 +73,15 @@ class Comparison:
         """How many copies of a message the broker sends: with MQTT 5 one for each subscription."""
         return 1 if key[0] in step.old_protocol else self.sessions.spread(*key)
 
-    def follow(self, commands: list[Command]) -> tuple[set[str], set[str]]:
+    def follow(self, commands: list[Command]) -> tuple[Set[str], Set[str]]:
         """Who resumes a session, and who of them with another user name than before."""
+        if len(commands) == 1 and commands[0]["do"] == "publish":
+            return NOBODY, NOBODY
         resumes: set[str] = set()
         again: set[str] = set()
         for command in commands:
-            client = command.get("client", "")
-            if command["do"] == "connect":
+            do, client = command["do"], command.get("client", "")
+            if do == "connect":
                 if self.sessions.present(command):
                     resumes.add(client)
                     again |= self.resume(client, command.get("user"))
@@ -81,7 +90,7 @@ class Comparison:
                     self.renamed.discard(client)
                 self.users[client] = command.get("user")
             self.sessions.follow(command)
-            if command["do"] == "disconnect" and not self.sessions.has(client):
+            if do == "disconnect" and not self.sessions.has(client):
                 self.users.pop(client, None)
         return resumes, again
 
@@ -95,22 +104,23 @@ class Comparison:
 
     # -- what the broker sent
 
-    def receive(self, step: Step, resumes: set[str]) -> tuple[set[str], set[str]]:
+    def receive(self, step: Step, resumes: Set[str]) -> tuple[Set[str], Set[str]]:
         """Gives each copy to its step. Who has all that was held back now, and who was cut off."""
+        if not step.events:
+            return NOBODY, NOBODY
         drained: set[str] = set()
         cut: set[str] = set()
-        if not step.events:
-            return drained, cut
         apart: defaultdict[tuple[str, Key], list[Copy]] = defaultdict(list)
         for event in step.events:
-            if event.copy is None:
-                (cut if event.apart else drained).add(event.client)
-                if not event.apart:
-                    self.settle([event.client], drained=True)
+            _, client, sent, _, special = event
+            if sent is None:
+                (cut if special else drained).add(client)
+                if not special:
+                    self.settle([client], drained=True)
                 continue
             self.sent += 1
-            sent, key = event.copy, (event.client, event.copy.topic)
-            copy = Copy(sent.qos, sent.retain, size=sent.size)
+            key = client, sent.topic
+            copy = copy_of(sent.qos, sent.retain, False, sent.size)
             found = self.kind_of(event, key, step, resumes, copy)
             if found is not None:
                 (apart[found, key] if found else step.broker.copies[key]).append(copy)
@@ -126,14 +136,14 @@ class Comparison:
             else:
                 self.found.append(Line(step.place, key, copies, [], found))
 
-    def kind_of(self, event: Event, key: Key, step: Step, resumes: set[str],
+    def kind_of(self, event: Event, key: Key, step: Step, resumes: Set[str],
                 copy: Copy) -> str | None:
         """The kind of a copy that mqroute hasn't; None: of an earlier step, empty: of this one."""
         if event.apart not in ("", OWN_WILL):
             return event.apart
         if event.released or event.client in resumes:
             return self.late(event, key, step, copy, event.client in resumes)
-        if copy.qos:
+        if copy.qos and self.backlog.owed:
             self.settle([event.client], drained=True)  # what is held back would have gone first
         return ""
 

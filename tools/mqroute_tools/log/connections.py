@@ -1,5 +1,5 @@
 """The first reading of a log that begins with the broker's start: nobody is connected then, and so
-the lines are wanted that tell of connections, and no others."""
+only lines about connections are needed."""
 from collections.abc import Iterable, Iterator
 from typing import BinaryIO
 
@@ -42,7 +42,7 @@ class Connections(Converter):
         for start in sorted({start for word in WANTED for start in starts(word, block)}):
             end = block.index(b"\n", start)
             self.place += block.count(b"\n", passed, start)
-            self.read(log.cut(block[start:end]))
+            self.read(log.text_of(log.cut(block[start:end])))
             passed = end + 1
         self.place += block.count(b"\n", passed)
 
@@ -56,8 +56,8 @@ def starts(word: bytes, block: bytes) -> Iterator[int]:
 
 
 def connections(streams: Iterable[BinaryIO], form: str | None) -> Beginning | None:
-    """What the logs tell of sessions, if they begin with the broker's start; none where they don't,
-    or where a bridge's own lines tell of more."""
+    """What the logs show of sessions, if they begin with the broker's start; none where they don't,
+    or where a bridge's own lines show more."""
     reader = Connections(form)
     for stream in streams:
         is_first = True

@@ -7,7 +7,7 @@ from ..script.file_kinds import OF_MOSQUITTO
 from ..script.output import Command
 from . import mosquitto_log as log
 from .broker_state import publish
-from .clients import Arrival
+from .clients import Arrival, Session
 from .subscribing import Subscribing
 from .time_stamps import LOOKED_AT, Stamps
 
@@ -20,7 +20,7 @@ class Converter(Subscribing):
     def __init__(self, session_expiry: int = 0, form: str | None = None) -> None:
         super().__init__(session_expiry)
         self.stamps = Stamps(form)
-        self.latest: tuple[str, int, int] | None = None  # the last PUBLISH: client, identifier, QoS
+        self.latest: log.Publish | None = None  # the last that a client sent
         # that connected over TCP: the broker has no such line of a websocket
         self.addresses: dict[str, None] = {}
         self.sys_topics: set[str] = set()  # below $SYS/, that clients publish
@@ -28,24 +28,24 @@ class Converter(Subscribing):
         self.parting: tuple[str, int] | None = None
         self.is_log = False  # whether a line of mosquitto's was read
         self.silent = False  # the broker shows neither who connects nor whose connection ends
+        self.turn = 0  # how many lines were read but grants, and those of other programs
         self.frequent = self.readers()
+        self.rare = ("", 0, self.known_rarer)
 
     # -- reading
 
-    def read(self, raw: bytes) -> None:
+    def read(self, line: str | bytes) -> None:
+        """Bytes are a line that is not UTF-8."""
         self.place += 1
         if self.commands:
             self.commands = []
-        try:
-            line = raw.decode("utf-8")
-        except UnicodeDecodeError:
-            self.lost(raw.decode("utf-8", "replace"), len(raw))
+        if isinstance(line, bytes):
+            self.lost(line.decode("utf-8", "replace"), len(line))
             return
-        stamps = self.stamps
-        if stamps.start and line.startswith(stamps.start):
-            time, text = stamps.last[1], line[len(stamps.start):]
-        else:
-            time, text = stamps.split(line)
+        time = None  # that of the line before
+        stamp, _, text = line.partition(": ")
+        if stamp != self.stamps.alone:
+            time, text = self.stamps.split(line)
         if self.parting is not None:
             self.end_after_disconnect(text)
         if self.ended is not None and not text.startswith(log.COPY):
@@ -57,14 +57,18 @@ class Converter(Subscribing):
             self.time = time
         if not self.is_log:
             self.is_log = OF_MOSQUITTO.match(text) is not None
-        if text and not (self.asked is not None and self.granted(text) or self.known(text)):
-            self.lost(line, len(raw))
+        if not text or (self.asked is not None and self.granted(text)):
+            return
+        self.turn += 1
+        start, end, work_in = self.frequent.get(text[:log.DISTINCT], self.rare)
+        if not (work_in(text[end:]) if text.startswith(start) else self.known_rarer(text)):
+            self.lost(line, len(line.encode("utf-8")))
 
     def finish(self) -> None:
-        """Tells of what still waits for a line that doesn't come."""
+        """Notes what still waits for a line that doesn't come."""
         if self.arrival:
-            self.notes.add("connections are without their CONNACK line, and not in the script: the "
-                           "broker wants log_type all",
+            self.notes.add("connections are without their CONNACK line, and not in the script: set "
+                           "log_type all in mosquitto.conf",
                            f"line {self.arrival.place}: {self.arrival.text}")
             self.arrival = None
 
@@ -78,39 +82,53 @@ class Converter(Subscribing):
         self.notes.add(
             "lines can be read in two ways; the first was taken", f"line {self.place}: {text}")
 
-    def readers(self) -> dict[str, tuple[str, Callable[[str], bool]]]:
-        """What reads a line of a frequent kind, by how such a line begins."""
+    def readers(self) -> dict[str, tuple[str, int, Callable[[str], bool]]]:
+        """What works in the rest of a line of a frequent kind, by how such a line begins, with all
+        of its beginning and its length. It answers whether the rest is one of that kind."""
         starts: dict[str, Callable[[str], bool]] = {
-            log.COPY: self.copy, log.RECEIVED: self.routed, log.DENIED: self.denied_publish}
-        starts |= dict.fromkeys(log.ACKNOWLEDGING, self.acknowledging)
-        return {start[:log.TELLING]: (start, read) for start, read in starts.items()}
+            log.COPY: self.copy, log.RECEIVED: self.routed, log.DENIED: self.denied_publish,
+            log.RELEASED: self.released, log.ARRIVED: self.reached,
+            log.CONNACK_SENT: self.connack, log.SUBACK_SENT: self.subscribed,
+            log.UNSUBACK_SENT: self.unsubscribed}
+        starts |= dict.fromkeys((log.RECEPTION, log.WILL_LESS), self.passed_over)
+        starts |= dict.fromkeys(log.ACKNOWLEDGEMENTS_SENT, self.acknowledging)
+        starts |= dict.fromkeys(log.ACKNOWLEDGEMENTS, self.acknowledged)
+        starts[log.RELEASE_SENT] = self.releasing
+        return {start[:log.DISTINCT]: (start, len(start), work_in)
+                for start, work_in in starts.items()}
 
-    def known(self, text: str) -> bool:
-        """Whether the line is of a known kind; it is then worked in."""
-        frequent = self.frequent.get(text[:log.TELLING])
-        if frequent is not None and text.startswith(frequent[0]):
-            return frequent[1](text)
-        return self.known_rarer(text)
-
-    def copy(self, text: str) -> bool:
-        sent = log.read_publish(text[len(log.COPY):], self.connected)
-        if sent:
-            self.copied(sent)
-        return sent is not None
-
-    def routed(self, text: str) -> bool:
-        return self.publish(text[len(log.RECEIVED):], routed=True)
-
-    def denied_publish(self, text: str) -> bool:
-        return self.publish(text[len(log.DENIED):], routed=False)
-
-    def acknowledging(self, text: str) -> bool:
-        """Of an acknowledgement a script has nothing."""
+    def passed_over(self, rest: str) -> bool:
+        """Of such a line a script has nothing."""
         return True
+
+    def acknowledging(self, rest: str) -> bool:
+        """The broker sends PUBACK, PUBREC or PUBCOMP."""
+        return True
+
+    def releasing(self, rest: str) -> bool:
+        """The broker sends PUBREL."""
+        return True
+
+    def acknowledged(self, rest: str) -> bool:
+        """A client sends PUBACK or PUBCOMP."""
+        return True
+
+    def copy(self, rest: str) -> bool:
+        sent = log.read_publish(rest, self.connected)
+        if sent is None:
+            return False
+        self.copied(sent)
+        return True
+
+    def routed(self, rest: str) -> bool:
+        return self.publish(rest, routed=True)
+
+    def denied_publish(self, rest: str) -> bool:
+        return self.publish(rest, routed=False)
 
     def known_rarer(self, text: str) -> bool:
         if text.startswith("Sending "):
-            return self.sending(text[8:])
+            return True
         if text.startswith("Received "):
             return self.received(text[9:])
         if text.startswith("\t"):
@@ -122,14 +140,15 @@ class Converter(Subscribing):
             return self.arrival.will_head is not None
         return self.ending(text) or self.noted(text) or text.startswith(log.PASSED_OVER)
 
+    def reached(self, rest: str) -> bool:
+        """`New connection from ADDRESS on port N.`"""
+        self.addresses[rest.partition(" ")[0]] = None
+        if len(self.addresses) > ADDRESSES:
+            del self.addresses[next(iter(self.addresses))]
+        return True
+
     def arriving(self, text: str) -> bool:
-        """`New connection from ADDRESS on port N.`, and then `New client connected
-        from ADDRESS as ID (..).`"""
-        if text.startswith("New connection from "):
-            self.addresses[text[20:].partition(" ")[0]] = None
-            if len(self.addresses) > ADDRESSES:
-                del self.addresses[next(iter(self.addresses))]
-            return True
+        """And then `New client connected from ADDRESS as ID (..).`"""
         if not text.startswith(("New client connected from ", "New bridge connected from ")):
             return False
         address, found, name = text[26:].partition(" as ")
@@ -151,26 +170,30 @@ class Converter(Subscribing):
             self.bridge_subscribes(bridge[1], bridge[2])
         return bridge is not None or log.BRIDGE_SENDS.match(text) is not None
 
-    def sending(self, text: str) -> bool:
-        if text.startswith("CONNACK to "):
-            return self.connack(text[11:])
-        if text.startswith(("SUBACK to ", "UNSUBACK to ")):
-            self.grant(None)
-            self.packet = None
+    def subscribed(self, client: str) -> bool:
+        """The broker sends SUBACK."""
+        self.grant(None)
+        self.packet = None
+        return True
+
+    def unsubscribed(self, client: str) -> bool:
+        """The broker sends UNSUBACK."""
+        self.grant(None)
+        self.packet = None
         return True
 
     def copied(self, sent: log.Publish) -> bool:
         """The broker sent a copy. Whether it may be one that the script explains."""
+        client, topic = sent.client, sent.topic
         if self.ended is not None and self.of_own_will(sent):
             return False
-        if sent.client not in self.connected:
-            self.was_before(sent.client)
-        if not sent.topic.startswith("$SYS/"):
+        if client not in self.connected:
+            self.was_before(client)
+        if not topic.startswith("$SYS/"):
             return True
-        if sent.topic not in self.sys_topics:
+        if topic not in self.sys_topics:
             self.notes.add("copies of topics under $SYS/, which the broker publishes itself, are "
-                           "not in the script",
-                           f"line {self.place}: {sent.client} {sent.topic}")
+                           "not in the script", f"line {self.place}: {client} {topic}")
         return False
 
     def of_own_will(self, sent: log.Publish) -> bool:
@@ -186,8 +209,6 @@ class Converter(Subscribing):
         elif kind == "DISCONNECT":
             if client in self.connected:
                 self.disconnecting(client)
-        elif kind == "PUBREL":
-            return self.released(client)
         else:
             return (kind in ("PINGREQ", "PUBACK", "PUBREC", "PUBCOMP", "AUTH", "SUBACK", "UNSUBACK")
                     or text.startswith("CONNACK on connection "))
@@ -199,10 +220,14 @@ class Converter(Subscribing):
         if found is None:
             return False
         session = self.connected.get(found[1])
-        command = session.unreleased.pop(int(found[2]), None) if session else None
+        if session:
+            self.release(session, int(found[2]))
+        return True
+
+    def release(self, session: Session, packet: int) -> None:
+        command = session.unreleased.pop(packet, None)
         if command:
             self.emit(self.place, command)
-        return True
 
     def disconnecting(self, client: str) -> None:
         """Over websockets the connection ends here for all others."""
@@ -224,16 +249,17 @@ class Converter(Subscribing):
 
     def take(self, found: log.Publish, routed: bool) -> None:
         """A client published; the broker routes it, or denies it."""
-        command = publish(found.client, found.topic, found.size, found.qos, bool(found.retain))
-        session = self.session(found.client)
-        self.latest = (found.client, found.packet, found.qos)
-        if found.topic.startswith("$SYS/"):
-            self.sys_topics.add(found.topic)
-        if routed and found.qos == 2:
-            if session.unreleased.get(found.packet, command) != command:
-                self.forget(found.client, found.packet)
-            session.renamed.discard(found.packet)
-            session.unreleased[found.packet] = command
+        self.latest = found
+        client, _, qos, retain, packet, topic, size, _ = found
+        command = publish(client, topic, size, qos, bool(retain))
+        session = self.connected.get(client) or self.session(client)
+        if topic.startswith("$SYS/"):
+            self.sys_topics.add(topic)
+        if routed and qos == 2:
+            if session.unreleased.get(packet, command) != command:
+                self.forget(client, packet)
+            session.renamed.discard(packet)
+            session.unreleased[packet] = command
         else:
             self.emit(self.place, command, routed)
 
@@ -282,8 +308,9 @@ class Converter(Subscribing):
             return True
         reused = log.REUSED.match(text)
         if reused:
-            if self.latest != (reused[2], int(reused[1]), 2):  # that one is new
-                self.forget(reused[2], int(reused[1]))
+            client, packet, last = reused[2], int(reused[1]), self.latest
+            if last is None or (last.client, last.packet, last.qos) != (client, packet, 2):
+                self.forget(client, packet)  # else that one is new
             return True
         expired = log.EXPIRED.match(text)
         if expired:
@@ -339,14 +366,15 @@ class Converter(Subscribing):
 def placed_commands(converter: Converter,
                     streams: Iterable[BinaryIO]) -> Iterator[tuple[int, Command]]:
     """The commands, each with the number of the log line that it came from."""
+    read = converter.read
     yield from converter.commands  # of before the log
     for stream in streams:
         with stream:
-            lines = log.raw_lines(stream)
+            lines = log.texts(stream)
             first = list(islice(lines, LOOKED_AT))
-            converter.stamps.decide([line.decode("utf-8", "replace") for line in first])
-            for raw in chain(first, lines):
-                converter.read(raw)
+            converter.stamps.decide(list(map(log.readable, first)))
+            for line in chain(first, lines):
+                read(line)
                 if converter.commands:
                     yield from converter.commands
     converter.commands = []

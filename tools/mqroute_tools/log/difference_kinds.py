@@ -62,7 +62,8 @@ def kind(step: Step, key: Key) -> str:
     theirs, ours = step.broker.copies.get(key, []), step.mqroute.copies.get(key, [])
     filters = [c["filter"] for c in step.commands if c["do"] == "subscribe"]
     more = len(theirs) > len(ours)
-    if any(f.startswith("$share/") for f in filters) and all(c.retain for c in theirs) and more:
+    if (more and filters and any(f.startswith("$share/") for f in filters)
+            and all(c.retain for c in theirs)):
         return RETAINED_FOR_GROUP
     if joined(theirs) == joined(ours):
         return OVERLAPPING

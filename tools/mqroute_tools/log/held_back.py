@@ -34,15 +34,19 @@ class Flight:
     def again(self, client: str, packet: int) -> bool:
         """Whether the copy was sent on the connection before this one: where that broke off it may
         come again without DUP."""
-        before = self.before.get(client, set())
+        before = self.before.get(client)
+        if before is None:
+            return False
         sent_before = packet in before
         before.discard(packet)
         if not before:
-            self.before.pop(client, None)
+            del self.before[client]
         return sent_before
 
     def add(self, client: str, packet: int, released: bool = False) -> None:
-        found = self.open.setdefault(client, set())
+        found = self.open.get(client)
+        if found is None:
+            found = self.open[client] = set()
         found.add(packet)
         self.peaks[client] = max(len(found), self.peaks.get(client, 0))
         if released:
@@ -64,9 +68,12 @@ class Flight:
 
     def flying(self) -> dict[str, bool]:
         """Who has had messages in flight since the last command, and whether as many as may be."""
-        counts = {client: len(found) for client, found in self.open.items()} | self.peaks
-        self.peaks = {}
-        return {client: count >= self.limit(client) for client, count in counts.items()}
+        if not self.open and not self.peaks:
+            return {}
+        counts, self.peaks, limits = self.peaks, {}, self.limits
+        for client, found in self.open.items():
+            counts.setdefault(client, len(found))
+        return {client: count >= limits.get(client, LIMIT) for client, count in counts.items()}
 
 
 @dataclass

@@ -7,7 +7,7 @@ from typing import BinaryIO
 from ..script.output import Command
 from ..script.sessions import FOREVER
 from . import mosquitto_log as log
-from .broker_state import UNTOLD, Client, State, publish
+from .broker_state import UNSHOWN, Client, State, publish
 from .clients import NONE, Arrival, Session
 from .conversion import Converter, placed_commands
 from .inferred_subscriptions import Evidence, Inferred, Published
@@ -90,7 +90,7 @@ class Observer(Converter):
                 present: bool) -> None:
         if present and client not in self.connected and client not in self.away:
             self.away[client] = self.older(client, away=True)
-        if present and client in self.begun and self.begin.clients[client].expiry in (0, UNTOLD):
+        if present and client in self.begun and self.begin.clients[client].expiry in (0, UNSHOWN):
             self.begin.clients[client].expiry = FOREVER
         self.begun.discard(client)
         self.doubtful.pop(client, None)

@@ -80,7 +80,7 @@ def generalised(topic: str) -> set[str]:
 
 
 def generality(name: str) -> tuple[int, int, bool]:
-    """Less of a filter with more levels that are no wildcards, with fewer
+    """Less of a filter with more levels that aren't wildcards, with fewer
     wildcards, and without `#`."""
     levels = name.split("/")
     wildcards = levels.count("+") + levels.count("#")

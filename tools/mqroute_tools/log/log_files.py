@@ -39,7 +39,7 @@ class Logs:
         return copy.name
 
     def streams(self, reader: Converter | None = None) -> Iterator[BinaryIO]:
-        """The files, opened; with who reads them, so that `where` can tell."""
+        """The files, opened; with who reads them, so that `where` knows it."""
         for path, name in self.files:
             stream = open_input(path)
             if not self.head:

@@ -1,6 +1,6 @@
 """log-to-script: makes a script for mqroute of a mosquitto 2.0 log (log_type all).
 
-The commands stand in the order in which the broker did them. What a log doesn't tell (payloads,
+The commands stand in the order in which the broker did them. What isn't in a log (payloads,
 options, expiry) is left at its default; a payload is shown as its number of bytes, and is empty
 where it was empty.
 Of clients that were connected before the log began the script begins with what their copies show
@@ -14,6 +14,7 @@ import shutil
 import sys
 import tempfile
 from functools import lru_cache
+from itertools import starmap
 from typing import IO
 
 from ..common.files import STDIN, keep_apart, refuse_stdin_twice, whole
@@ -25,14 +26,18 @@ from .log_files import Logs
 from .options import add_log_options
 from .script_writer import Writer, read_logs
 
-# of a value, as JSON; most names and topics of a log come again and again
-value_text = lru_cache(1 << 14, typed=True)(json.JSONEncoder(ensure_ascii=False).encode)
+value_text = json.JSONEncoder(ensure_ascii=False).encode
+
+
+@lru_cache(1 << 14, typed=True)
+def field_text(name: str, value: str | int) -> str:
+    """As JSON; most names and topics of a log come again and again."""
+    return f'"{name}":{value_text(value)}'
 
 
 def text_of(command: Command) -> str:
     """A command as a line of a script, without its end."""
-    fields = [f'"{name}":{value_text(value)}' for name, value in command.items()]
-    return f"{{{','.join(fields)}}}"
+    return "{" + ",".join(starmap(field_text, command.items())) + "}"
 
 
 def write_script(options: argparse.Namespace, logs: Logs, out: IO[bytes],

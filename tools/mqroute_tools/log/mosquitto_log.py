@@ -1,8 +1,11 @@
 """What the lines of a mosquitto 2.0 log say (log_type all), one event a line."""
 import re
-from collections.abc import Container, Iterator
-from typing import BinaryIO, NamedTuple
+from collections.abc import Container, Iterator, Sequence
+from contextlib import suppress
+from itertools import chain, product
+from typing import BinaryIO, NamedTuple, TypeVar
 
+Kept = TypeVar("Kept")
 LINE_MAX = 65_536  # far over what mosquitto writes: it cuts its lines at 1,000 bytes
 CUT_AT = 999
 
@@ -37,22 +40,45 @@ def raw_lines(stream: BinaryIO) -> Iterator[bytes]:
         yield from lines_of(block)
 
 
+def texts(stream: BinaryIO) -> Iterator[str | bytes]:
+    """The same lines as texts, and those that are not UTF-8 as they stand."""
+    return chain.from_iterable(map(texts_of, blocks(stream)))
+
+
+def texts_of(block: bytes) -> Sequence[str | bytes]:
+    """All at once where no line is to be cut; a character has at most four bytes."""
+    if b"\r" not in block:
+        with suppress(UnicodeDecodeError):
+            lines = block[:-1].decode("utf-8").split("\n")
+            if 4 * max(map(len, lines)) <= LINE_MAX:
+                return lines
+    return list(map(text_of, lines_of(block)))
+
+
+def text_of(line: bytes) -> str | bytes:
+    try:
+        return line.decode("utf-8")
+    except UnicodeDecodeError:
+        return line
+
+
+def readable(line: str | bytes) -> str:
+    return line if isinstance(line, str) else line.decode("utf-8", "replace")
+
+
 # The client id is free text, and so may look like any other part of a line. Each form below is read
 # with its fixed words at both ends; where more than one reading is left, the clients that are
 # connected decide.
 
-# where a line has one head
-ONE_PUBLISH = re.compile(
-    r"(.*) \(d([01]), q([0-2]), r([01]), m(\d+), '(.*)', \.\.\. \((\d+) bytes\)\)")
 PUBLISH_HEAD = re.compile(r" \(d([01]), q([0-2]), r([01]), m(\d+), '")
 COPY, RECEIVED, DENIED = "Sending PUBLISH to ", "Received PUBLISH from ", "Denied PUBLISH from "
-TELLING = 15  # characters by which these differ from one another and from ACKNOWLEDGING
+TOPIC_AND_SIZE = re.compile(r"(.*)', \.\.\. \((\d+) bytes\)\)")
 PUBLISH_END = re.compile(r"', \.\.\. \((\d+) bytes\)\)$")
 CONNECTED = re.compile(r" \(p(\d+), c([01]), k\d+(?:, u'(.*)')?\)\.$")
 CONNACK = re.compile(r"(.*) \(([01]), (\d+)\)$")
 RELEASE = re.compile(r"(.*) \(Mid: (\d+)\)$")
-ACKNOWLEDGED = re.compile(r"PUB(?:ACK|COMP) from (.*) \(Mid: (\d+), RC:\d+\)$")
-ANSWERED = re.compile(r"(PUB(?:ACK|REC|REL|COMP)) to (.*) \(m(\d+)(?:, rc\d+)?\)$")
+ACKNOWLEDGED = re.compile(r"(.*) \(Mid: (\d+), RC:\d+\)$")
+ANSWERED = re.compile(r"(.*) \(m(\d+)(?:, rc\d+)?\)$")
 FILTER = re.compile(r"(.*) \(QoS ([0-2])\)$")
 WILL = re.compile(r"Will message specified \((\d+) bytes\) \(r([01]), q([0-2])\)\.$")
 ENDS = tuple(re.compile(p) for p in (
@@ -66,11 +92,16 @@ ENDS = tuple(re.compile(p) for p in (
     r"Bad socket read/write on client (.*): [A-Za-z0-9 ,/'()-]+$",
     r"Socket error on client (.*), disconnecting\.$",
 ))
-# Lines of which a script has nothing, and a log many.
-ACKNOWLEDGING = (
-    "Sending PUBACK to ", "Sending PUBREC to ", "Sending PUBCOMP to ",
-    "Received PUBACK from ", "Received PUBREC from ", "Received PUBCOMP from ")
-# Lines that tell nothing a script has.
+# Lines that a log has many of begin so; by so many characters they differ from one another.
+DISTINCT = 15
+RELEASED, CONNACK_SENT = "Received PUBREL from ", "Sending CONNACK to "
+SUBACK_SENT, UNSUBACK_SENT = "Sending SUBACK to ", "Sending UNSUBACK to "
+ARRIVED, WILL_LESS = "New connection from ", "No will message specified."
+# Of these a script has nothing.
+ACKNOWLEDGEMENTS_SENT = ("Sending PUBACK to ", "Sending PUBREC to ", "Sending PUBCOMP to ")
+RELEASE_SENT, RECEPTION = "Sending PUBREL to ", "Received PUBREC from "
+ACKNOWLEDGEMENTS = ("Received PUBACK from ", "Received PUBCOMP from ")
+# Lines with nothing that a script has.
 PASSED_OVER = (
     "Sending ", "New connection from ", "No will message specified.",
     "Received PINGREQ from ", "Received PUBACK from ", "Received PUBREC from ",
@@ -113,25 +144,49 @@ class Publish(NamedTuple):
 
 
 REMEMBERED = 10_000
-# Of QoS 0 there is no packet identifier, and so the same texts come again.
+# Texts that come again and again: of QoS 0 all of a line, since there is no packet identifier,
 OF_QOS_0: dict[str, Publish] = {}
+# and of all lines what stands behind that, with its topic and size.
+TOPICS: dict[str, tuple[str, int]] = {}
+# DUP, QoS and RETAIN, by how a line has them.
+FLAGS = {f"{dup}, q{qos}, r{retain}, m": (dup, qos, retain)
+         for dup, qos, retain in product((0, 1), (0, 1, 2), (0, 1))}
+FLAGS_END = len("0, q0, r0, m")
 
 
 def read_publish(text: str, known: Container[str]) -> Publish | None:
-    """`text` is what stands after `PUBLISH from ` or `PUBLISH to `."""
+    """`text` is what stands after `PUBLISH from ` or `PUBLISH to `, as in
+    `kiosk (d0, q1, r0, m7, 'shop/door', ... (5 bytes))`."""
     found = OF_QOS_0.get(text)
     if found is not None:
         return found
-    one = ONE_PUBLISH.fullmatch(text) if text.count(" (d") == 1 else None
-    if one is None:
+    client, _, rest = text.partition(" (d")
+    head, _, rest = rest.partition(", '")
+    flags, packet = FLAGS.get(head[:FLAGS_END]), head[FLAGS_END:]
+    named = TOPICS.get(rest) or topic_and_size(rest)
+    if flags is None or named is None or not packet.isdecimal():
         return read_odd_publish(text, known)
-    client, dup, qos, retain, packet, topic, size = one.groups()
-    found = Publish(client, int(dup), int(qos), int(retain), int(packet), topic, int(size))
-    if qos == "0":
-        if len(OF_QOS_0) >= REMEMBERED:
-            OF_QOS_0.clear()
-        OF_QOS_0[text] = found
+    dup, qos, retain = flags
+    found = Publish(client, dup, qos, retain, int(packet), *named)
+    if qos == 0:
+        remember(OF_QOS_0, text, found)
     return found
+
+
+def topic_and_size(rest: str) -> tuple[str, int] | None:
+    """None where the topic looks like the head of another reading."""
+    found = TOPIC_AND_SIZE.fullmatch(rest) if " (d" not in rest else None
+    if found is None:
+        return None
+    named = found[1], int(found[2])
+    remember(TOPICS, rest, named)
+    return named
+
+
+def remember(texts: dict[str, Kept], text: str, found: Kept) -> None:
+    if len(texts) >= REMEMBERED:
+        texts.clear()
+    texts[text] = found
 
 
 def read_odd_publish(text: str, known: Container[str]) -> Publish | None:

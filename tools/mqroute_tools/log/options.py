@@ -16,13 +16,14 @@ def given_options(options: argparse.Namespace, names: tuple[str, ...] = NAMES) -
 
 def add_log_options(parser: argparse.ArgumentParser) -> None:
     parser.add_argument("--time-format", metavar="FORMAT",
-                        help="log_timestamp_format as in mosquitto.conf (seconds, ISO and none are "
-                        "found without)")
+                        help="log_timestamp_format as in mosquitto.conf; not needed for seconds, "
+                        "ISO times and lines without a time")
     parser.add_argument("--session-expiry", metavar="SECONDS", type=whole_number(0, FOREVER),
                         help="Session Expiry Interval of MQTT 5 clients that connect without Clean "
-                        "Start; without it the next CONNACK shows")
+                        "Start; without it a client's next CONNACK shows whether its session "
+                        "was kept")
     parser.add_argument("--no-inference", action="store_true",
-                        help="nothing of before the log but what --begin has")
+                        help="infer nothing of what was before the log")
     parser.add_argument("--begin", metavar="FILE",
                         help="a script to begin with, such as what --state wrote for the log "
                         "before this one")

@@ -14,7 +14,12 @@ def flags(copies: list[Copy]) -> list[tuple[int, int]]:
     return sorted(found) if len(found) > 1 else found
 
 
-@dataclass
+def differ(copies: list[Copy], others: list[Copy]) -> bool:
+    """In their number, QoS or RETAIN."""
+    return len(copies) != len(others) or flags(copies) != flags(others)
+
+
+@dataclass(slots=True)
 class Line:
     """One line of the report; its kind may be known only later."""
     place: int
@@ -25,8 +30,7 @@ class Line:
     last: int = 0  # where the last of the copies was sent that came late
 
     def differs(self) -> bool:
-        is_as_many = len(self.theirs) == len(self.ours)
-        return not is_as_many or flags(self.theirs) != flags(self.ours)
+        return differ(self.theirs, self.ours)
 
     def __str__(self) -> str:
         late = f" (by line {self.last})" if self.last else ""

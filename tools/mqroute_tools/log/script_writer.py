@@ -12,7 +12,7 @@ from ..script.file_kinds import kind
 from ..script.output import Command, is_blank
 from ..script.sessions import FOREVER
 from . import mosquitto_log as log
-from .broker_state import UNTOLD, State
+from .broker_state import UNSHOWN, State
 from .clients import MQTT_3_1, NONE, Arrival
 from .connections import connections
 from .conversion import Converter
@@ -32,7 +32,7 @@ class Writer(Converter):
         self.given = session_expiry is not None
         self.begins = begins
         self.state: State | None = None  # that the commands lead to, if it is wanted
-        self.untold = False  # whether the session that begins is kept
+        self.unshown = False  # whether the session that begins is kept
         self.for_will = False
         self.topics: set[str] = set(begins.state.retained)  # that the script publishes
         self.touched: set[str] = set()  # of them, those whose retained message it sets or clears
@@ -66,7 +66,7 @@ class Writer(Converter):
             self.topics.add(command["topic"])
             if command.get("retain") and routed is not False:
                 self.touched.add(command["topic"])
-        if self.state:
+        if self.state is not None:
             for _, each in self.commands[written:]:
                 self.follow(self.state, each, routed)
 
@@ -74,7 +74,7 @@ class Writer(Converter):
         if command["do"] == "connect":
             if self.for_will and command["client"] in state.clients:
                 return
-            command = command | ({"session_expiry": UNTOLD} if self.untold else {})
+            command = command | ({"session_expiry": UNSHOWN} if self.unshown else {})
         state.follow(command, routed)
 
     def come_for_will(self, place: int, command: Command) -> None:
@@ -95,8 +95,8 @@ class Writer(Converter):
     def connect(self, arrival: Arrival, client: str, user: str | None, clean: bool, protocol: int,
                 present: bool) -> None:
         old = self.connected.get(client) or self.away.get(client)
-        untold = old is not None and protocol == MQTT_3_1 and not clean  # whether it is resumed
-        if (present or untold) and not (old and old.kept):
+        unshown = old is not None and protocol == MQTT_3_1 and not clean  # whether it is resumed
+        if (present or unshown) and not (old and old.kept):
             self.shows_older()
         super().connect(arrival, client, user, clean, protocol, present)
 
@@ -107,12 +107,12 @@ class Writer(Converter):
 
     def expiry(self, place: int, client: str, clean: bool, protocol: int) -> int:
         """As the next CONNACK shows it: whether the session was there."""
-        self.untold = False
+        self.unshown = False
         if protocol < 5 or self.given:
             return super().expiry(place, client, clean, protocol)
         if place in self.begins.kept:
             return FOREVER
-        self.untold = place not in self.begins.ended
+        self.unshown = place not in self.begins.ended
         if not clean and place not in self.begins.ended:
             self.notes.add("MQTT 5 sessions may be kept after their connection, and no later "
                            "CONNACK shows: they are not (--session-expiry)",
@@ -134,13 +134,18 @@ class Writer(Converter):
     def copied(self, sent: log.Publish) -> bool:
         if not super().copied(sent):
             return False
-        if not sent.dup:
-            session = self.connected.get(sent.client)
-            known = session is not None and sent.topic in self.topics
-            self.explained[session.reason(sent.topic) if session and known else NONE] += 1
-            if sent.retain and sent.topic not in self.touched:
+        client, dup, _, retain, _, topic, _, _ = sent
+        if not dup:
+            self.explain(client, topic)
+            if retain and topic not in self.touched:
                 self.shows_older()
         return True
+
+    def explain(self, client: str, topic: str) -> None:
+        """Counts a copy by what explains it."""
+        session = self.connected.get(client)
+        known = session is not None and topic in self.topics
+        self.explained[session.reason(topic) if session and known else NONE] += 1
 
     def unsubscribe(self, place: int, client: str, name: str) -> None:
         super().unsubscribe(place, client, name)

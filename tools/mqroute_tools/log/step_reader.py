@@ -3,17 +3,17 @@ from collections.abc import Iterable, Iterator
 from typing import BinaryIO
 
 from ..common.exit_status import Fault
-from ..script.output import PLAIN, Block, Command, Key, blocks, by_key, misfit, read_json
+from ..script.output import Block, Command, Key, blocks, key_of, misfit, plain_copy, read_json
 from ..script.topics import plain_filter
 from . import mosquitto_log as log
 from .broker_state import publish
-from .clients import Arrival
+from .clients import Arrival, Session
 from .conversion import placed_commands
 from .difference_kinds import BROKERS_TOPIC, CUT_OFF, LOGGED_WILL, OWN_WILL, TAKEN_WILL
 from .held_back import Flight
 from .inference import Beginning
 from .script_writer import Writer
-from .steps import Copy, Event, Step
+from .steps import Copy, Event, Step, copy_of
 
 
 class Watcher(Writer):
@@ -23,75 +23,81 @@ class Watcher(Writer):
         super().__init__(session_expiry, form, begins)
         self.events: list[Event] = []  # that no step has yet
         self.flight = Flight()
-        self.acknowledged = self.behind = ""  # who acknowledges in this line, and in the one before
-        self.sent_to = self.was_sent_to = ""  # to whom this line sends, and the one before did
+        self.acknowledging_client = ("", 0)  # who acknowledged last, and in which turn
+        self.sent_to = ("", 0)  # to whom the broker sent something last, and in which turn
+        self.answer = ("", 0)  # of its last acknowledgement the text, and the turn
         self.denied: log.Publish | None = None  # by the last line
         self.renamed = False  # what this line releases was received under another user name
         self.resumed: tuple[str, list[str]] | None = None
         self.old_protocol: set[str] = set()
 
-    def known(self, text: str) -> bool:
-        self.acknowledged, self.behind = "", self.acknowledged
-        self.sent_to, self.was_sent_to = "", self.sent_to
-        return super().known(text)
+    def acknowledging(self, rest: str) -> bool:
+        self.answer = rest, self.turn
+        return True
 
-    def acknowledging(self, text: str) -> bool:
-        if text.startswith("Sending "):
-            answered = log.ANSWERED.match(text[8:])
-            if answered:
-                self.sent_to = answered[2]
-            return True
-        found = log.ACKNOWLEDGED.match(text[9:])
+    def releasing(self, rest: str) -> bool:
+        found = log.ANSWERED.match(rest)
         if found:
-            self.acknowledged = found[1]
+            self.flight.add(found[1], int(found[2]))
+            self.sent_to = found[1], self.turn
+        return True
+
+    def acknowledged(self, rest: str) -> bool:
+        found = log.ACKNOWLEDGED.match(rest)
+        if found:
+            self.acknowledging_client = found[1], self.turn
             if self.flight.acknowledge(found[1], int(found[2])):
                 self.events.append(Event(self.place, found[1]))
         return True
 
+    def was_sent_to(self, client: str) -> bool:
+        """Whether the line before shows something that was sent to the client."""
+        answer, turn = self.answer
+        answered = log.ANSWERED.match(answer) if turn == self.turn - 1 else None
+        return self.sent_to == (client, self.turn - 1) or (
+            answered is not None and answered[1] == client)
+
     def closed(self, client: str) -> None:
-        if self.was_sent_to == client:
+        if self.was_sent_to(client):
             self.events.append(Event(self.place - 1, client, apart=CUT_OFF))
         super().closed(client)
 
-    def received(self, text: str) -> bool:
-        release = log.RELEASE.match(text[12:]) if text.startswith("PUBREL from ") else None
-        if release and release[1] in self.connected:
-            self.renamed = int(release[2]) in self.connected[release[1]].renamed
-        return super().received(text)
+    def release(self, session: Session, packet: int) -> None:
+        self.renamed = packet in session.renamed
+        super().release(session, packet)
 
-    def sending(self, text: str) -> bool:
-        found = log.ANSWERED.match(text)
-        if found:
-            self.flight.add(found[2], int(found[3]))
-            self.sent_to = found[2]
-        elif text.startswith("SUBACK to "):
-            self.sent_to = text[10:]
-        return super().sending(text)
+    def subscribed(self, client: str) -> bool:
+        self.sent_to = client, self.turn
+        return super().subscribed(client)
 
     def copied(self, sent: log.Publish) -> bool:
         counts = super().copied(sent)
-        released = self.behind == sent.client
+        client, dup, qos, _, packet, _, _, _ = sent
+        released = self.acknowledging_client == (client, self.turn - 1)
         if released:
-            self.acknowledged = sent.client
+            self.acknowledging_client = client, self.turn
             if self.events and self.events[-1].copy is None:
                 self.events.pop()
-        self.sent_to = sent.client
-        if not (sent.dup or sent.qos and self.flight.again(sent.client, sent.packet)):
-            self.events.append(Event(self.place, sent.client, sent, released, self.apart(sent)))
-        if sent.qos:
-            self.flight.add(sent.client, sent.packet, released)
+        self.sent_to = client, self.turn
+        if not (dup or qos and self.flight.again(client, packet)):
+            self.events.append(Event(self.place, client, sent, released, self.apart(sent)))
+        if qos:
+            self.flight.add(client, packet, released)
         return counts
+
+    def explain(self, client: str, topic: str) -> None:
+        """mqroute's copies show it, where the two are compared."""
 
     def apart(self, sent: log.Publish) -> str:
         """The kind of a copy that no script gives: the broker's topics, the receiver's own will."""
         if sent.topic.startswith("$SYS/"):
             return "" if sent.topic in self.sys_topics else BROKERS_TOPIC
-        if self.of_own_will(sent):
-            return LOGGED_WILL
         session = self.connected.get(sent.client)
-        if session and session.taken and is_of(sent, session.will):
+        if session is None:
+            return LOGGED_WILL if self.of_own_will(sent) else ""
+        if session.taken and is_of(sent, session.will):
             return TAKEN_WILL
-        return OWN_WILL if session and is_of(sent, session.asked) else ""
+        return OWN_WILL if session.asked and is_of(sent, session.asked) else ""
 
     def take(self, found: log.Publish, routed: bool) -> None:
         self.denied = None if routed else found
@@ -124,7 +130,8 @@ def steps(watcher: Watcher, streams: Iterable[BinaryIO]) -> Iterator[Step]:
             found = [e for e in found if e.place < end]
         step.events = found
         step.flying = watcher.flight.flying()
-        receivers = step.flying.keys() | {event.client for event in step.events}
+        receivers = {event.client for event in found}
+        receivers.update(step.flying)
         step.old_protocol = receivers & watcher.old_protocol
     step: Step | None = None
     for place, command in placed_commands(watcher, streams):
@@ -166,21 +173,27 @@ def answered(found: Iterable[Step], name: str) -> Iterator[Step]:
 
 
 def add(step: Step, command: Command, block: Block, name: str) -> None:
-    copies = step.mqroute.copies
-    plain = [found for text in block.copies if (found := PLAIN.fullmatch(text))]
-    if len(plain) == len(block.copies):
-        check(command, block, [(it[1], it[6]) for it in plain], name)
-        for it in plain:
-            copies[it[1], it[6]].append(
-                Copy(int(it[3]), int(it[4] == "true"), it[5] is not None, size_of(it[2])))
-    else:
-        texts = by_key(block.copies, name)
-        check(command, block, texts, name)
-        for key in texts:
-            copies[key] += [Copy(c["qos"], int(c["retain"]), "share" in c, size_of(c["payload"]))
-                            for c in map(read_json, texts[key])]
+    copies: list[tuple[Key, Copy]] = []
+    for text in block.copies:
+        plain = plain_copy(text)
+        if plain:
+            client, message = plain
+            copy = copy_of(message.qos, int(message.retain), message.shared,
+                           size_of(message.payload))
+            copies.append(((client, message.topic), copy))
+        else:
+            copies.append((key_of(text, name), read_copy(text)))
+    check(command, block, [key for key, _ in copies], name)
+    for key, copy in copies:
+        step.mqroute.copies[key].append(copy)
     if block.refused == "NotAuthorized":
         step.mqroute.refused.append((command["client"], command["topic"]))
+
+
+def read_copy(text: str) -> Copy:
+    """One with escapes."""
+    copy = read_json(text)
+    return Copy(copy["qos"], int(copy["retain"]), "share" in copy, size_of(copy["payload"]))
 
 
 def check(command: Command, block: Block, keys: Iterable[Key], name: str) -> None:

@@ -1,21 +1,26 @@
 """One step of a log: its commands, and what the broker and mqroute did then."""
 from collections import defaultdict
 from dataclasses import dataclass, field
+from functools import lru_cache
 from typing import NamedTuple
 
 from ..script.output import Command, Key
 from .mosquitto_log import Publish
 
 
-@dataclass(order=True, slots=True)
+@dataclass(order=True, slots=True, frozen=True)
 class Copy:
     qos: int
     retain: int
-    shared: bool = False  # by a group; the log doesn't tell it
+    shared: bool = False  # by a group; the log doesn't show it
     size: int = field(default=0, compare=False)
 
     def __str__(self) -> str:
         return f"q{self.qos} r{self.retain}" + (" of a group" if self.shared else "")
+
+
+# a few copies come again and again: one object each
+copy_of = lru_cache(1 << 12)(Copy)
 
 
 class Event(NamedTuple):
@@ -27,22 +32,26 @@ class Event(NamedTuple):
     apart: str = ""  # the kind of a copy that mqroute never has
 
 
-@dataclass(slots=True)
 class Side:
     """The copies, and the publishes refused, of the broker or of mqroute, of one step."""
-    copies: defaultdict[Key, list[Copy]] = field(default_factory=lambda: defaultdict(list))
-    refused: list[Key] = field(default_factory=list)
+    __slots__ = ("copies", "refused")
+
+    def __init__(self) -> None:
+        self.copies: defaultdict[Key, list[Copy]] = defaultdict(list)
+        self.refused: list[Key] = []
 
 
-@dataclass(slots=True)
 class Step:
     """The commands of one line of the log, and what the broker did until the next ones."""
-    place: int
-    commands: list[Command] = field(default_factory=list)
-    events: list[Event] = field(default_factory=list)
-    broker: Side = field(default_factory=Side)
-    mqroute: Side = field(default_factory=Side)
-    shared: dict[str, list[str]] = field(default_factory=dict)  # who resumes: filters of its groups
-    old_protocol: set[str] = field(default_factory=set)  # receivers that speak MQTT 3
-    renamed: bool = False  # its publish was received under another user name
-    flying: dict[str, bool] = field(default_factory=dict)  # in flight: as many as may be?
+    __slots__ = ("place", "commands", "events", "broker", "mqroute", "shared", "old_protocol",
+                 "renamed", "flying")
+
+    def __init__(self, place: int) -> None:
+        self.place = place
+        self.commands: list[Command] = []
+        self.events: list[Event] = []
+        self.broker, self.mqroute = Side(), Side()
+        self.shared: dict[str, list[str]] = {}  # who resumes: filters of its groups
+        self.old_protocol: set[str] = set()  # receivers that speak MQTT 3
+        self.renamed = False  # its publish was received under another user name
+        self.flying: dict[str, bool] = {}  # in flight: as many as may be?

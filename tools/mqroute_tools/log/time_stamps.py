@@ -30,12 +30,12 @@ class Stamps:
         self.prefix_time: int | None = None
         # the last stamp, where it stands alone before the text: most lines begin with it, and their
         # reader takes it off
-        self.start = ""
+        self.alone: str | None = None
 
     def decide(self, lines: Sequence[str]) -> None:
         """Finds the form by the first lines of a file: the first of all may be cut, or
         begin like a stamp by chance."""
-        self.start = ""
+        self.alone = None
 
         def most(pattern: re.Pattern[str], texts: Sequence[str]) -> bool:
             return 2 * sum(1 for t in texts if pattern.match(t)) > len(texts)
@@ -78,7 +78,7 @@ class Stamps:
             if seconds is None:
                 return None, line
             self.last = (stamp, seconds)
-            self.start = f"{stamp}: " if stamp and not (self.form or self.prefixed) else ""
+            self.alone = stamp if stamp and not (self.form or self.prefixed) else None
         return self.last[1], text
 
     def seconds(self, stamp: str) -> int | None:

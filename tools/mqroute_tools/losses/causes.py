@@ -13,7 +13,7 @@ class Cause(NamedTuple):
     refused: str = ""  # the name of the refusal,
     newly: bool = True  # and whether the second run alone has it, or the first
     user: str | None = None  # of the publisher
-    did: str = ""  # what was refused, where it is no publish
+    did: str = ""  # what was refused, where it isn't a publish
     run: int = BEFORE  # of `waited`: where the copy is missing,
     least: int = 0  # and how many copies waited there, from
     most: int = 0  # to

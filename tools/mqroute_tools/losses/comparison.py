@@ -24,7 +24,7 @@ def gathered(depth: int | None, topic: str) -> str:
 
 
 class Losses:
-    """What differs, by client and topic. With `reasons` its causes too, and where they want
+    """What differs, by client and topic. With `reasons` its causes too, and where they need
     it by user name and topic."""
 
     def __init__(self, depth: int | None) -> None:
@@ -35,7 +35,7 @@ class Losses:
         self.refusals: defaultdict[Row, Refusals] = defaultdict(Refusals)
         self.entries: dict[Key, Copies] = {}  # of `copies`, those of the first keys
 
-    def add(self, text: bytes, before: Block, after: Block) -> str | bool:
+    def add(self, text: bytes, before: Block, after: Block) -> str:
         """Counts what one line of the script was answered in both runs. Says why, if an
         answer can't be of that line."""
         was = by_key(before.copies) if before.copies else NOTHING
@@ -43,21 +43,25 @@ class Losses:
         said = was or now or before.reason or after.reason or before.refused or after.refused
         if said or self.reasons:
             command = command_of(text)
-            why = said and (
-                misfit(command, before, was) or (after != before and misfit(command, after, now)))
-            if why:
-                return str(why)
+            if said:
+                why = misfit(command, before, was)
+                if not why and after != before:
+                    why = misfit(command, after, now)
+                if why:
+                    return f"an output is of another script: {why}"
             self.count(command or {}, (before, after), was, now)
-        return False
+        return ""
 
     def count(self, command: Command, blocks: tuple[Block, Block], was: Grouped,
               now: Grouped) -> None:
         if self.reasons:
             self.reasons.take(command, blocks, was, now)
-        self.add_copies(was, now)
-        self.add_refusals(command, blocks[0].line, blocks[0].refused, blocks[1].refused)
+        if was or now:
+            self.add_copies(was, now)
+        before, after = blocks
+        self.add_refusals(command, before.line, before.refused, after.refused)
         if self.reasons:
-            self.reasons.attribution.end(command, *blocks, was)
+            self.reasons.attribution.end(command, before, after, was)
 
     def who(self, client: str) -> str | None:
         if self.users is not None:
@@ -66,16 +70,19 @@ class Losses:
 
     def add_refusals(self, command: Command, line: int, was: str | None,
                      now: str | None) -> None:
-        if was or now:
-            subject = self.subject(command)
-            entry = self.refusals[subject]
-            entry.before += was is not None
-            entry.after += now is not None
-            if self.reasons:
-                self.reasons.refused(subject, line, command, was, now)
-            if was != now:
-                entry.newly.update([now] if now else [])
-                entry.no_longer.update([was] if was else [])
+        if not (was or now):
+            return
+        subject = self.subject(command)
+        entry = self.refusals[subject]
+        entry.before += was is not None
+        entry.after += now is not None
+        if self.reasons:
+            self.reasons.refused(subject, line, command, was, now)
+        if was != now:
+            if now:
+                entry.newly[now] += 1
+            if was:
+                entry.no_longer[was] += 1
 
     def add_copies(self, was: Grouped, now: Grouped) -> None:
         for key in was if now is was else was.keys() | now.keys():
@@ -162,24 +169,31 @@ def refuse_rest(runs: list[Run], script: str) -> None:
 
 def compare_lines(losses: Losses, script: str, commands: BinaryIO, runs: list[Run],
                   seen: Seen) -> None:
+    first, second = runs
     for number, text in enumerate(commands, 1):
-        seen.add(text)
-        why = compare_line(losses, text, runs, number)
+        if not seen.has_command:
+            seen.add(text)
+        before, after = first.take(number), second.take(number)
+        if before and after and text.startswith(b"{"):
+            why = losses.add(text, before, after)
+        else:
+            why = odd_line(losses, text, runs, (before, after))
         if why:
             raise Fault(f"{at(script, number)}: {why}")
 
 
-def compare_line(losses: Losses, text: bytes, runs: list[Run], number: int) -> str:
-    """Counts one line of the script. Says why, if the outputs can't be of this script."""
-    before, after = runs[0].take(number), runs[1].take(number)
+def odd_line(losses: Losses, text: bytes, runs: list[Run],
+             answers: tuple[Block | None, Block | None]) -> str:
+    """Counts a line that begins otherwise, or isn't answered in both runs. Says why, if the outputs
+    can't be of this script."""
+    before, after = answers
     if is_blank(text):
-        names = [run.name for run, block in zip(runs, (before, after)) if block]
+        names = [run.name for run, block in zip(runs, answers) if block]
         return blank_answered(names[0]) if names else ""
     if before is None or after is None:
-        names = [run.name for run, block in zip(runs, (before, after)) if block is None]
+        names = [run.name for run, block in zip(runs, answers) if block is None]
         return unanswered(names)
-    why = losses.add(text, before, after)
-    return f"an output is of another script: {why}" if why else ""
+    return losses.add(text, before, after)
 
 
 def blank_answered(name: str) -> str:

@@ -1,4 +1,4 @@
-"""What a script has done up to a line, as far as causes want it: users, who is away, what is
+"""What a script has done up to a line, as far as causes need it: users, who is away, what is
 retained, what was published.
 
 Sessions, subscriptions and the clock are the script's alone, and so the same in both runs. What may

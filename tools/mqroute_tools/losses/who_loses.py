@@ -22,14 +22,14 @@ from .text_report import report
 
 
 def add_arguments(parser: argparse.ArgumentParser) -> None:
-    parser.description = "Tells who loses what between two outputs of mqroute for one script."
+    parser.description = "Shows who loses what between two outputs of mqroute for one script."
     for name in ("script", "before", "after"):
         parser.add_argument(name)
     parser.add_argument("--depth", type=whole_number(1), metavar="N",
                         help="gather topics by their first N levels")
     parser.add_argument("--by", choices=["client", "user"],
-                        help="gather rows by user name, with causes (client without it; with "
-                        "--html user)")
+                        help="rows by client (default), or by user with causes (default with "
+                        "--html)")
     parser.add_argument("--why", action="store_true", help="the causes by client, too")
     parser.add_argument("--acl-before", metavar="FILE",
                         help="with --acl-after: the lines of both lists that decide (by "
@@ -63,7 +63,7 @@ def check_plan(options: argparse.Namespace) -> None:
     for name, value in (("--by", options.by), ("--why", options.why), ("--html", options.html),
                         ("--acl-before", options.acl_before)):
         if options.plan is not None and value:
-            raise UsageFault(f"{name} goes without --plan")
+            raise UsageFault(f"{name} can't be used with --plan")
 
 
 def run(options: argparse.Namespace) -> int:

@@ -93,7 +93,7 @@ class Bridge:
                         "bridge otherwise, by --bridge")
 
     def fed(self, lines: list[bytes]) -> list[Answer]:
-        """What mqroute answers to lines; what is no command changes nothing."""
+        """What mqroute answers to lines; an invalid line changes nothing."""
         found: list[Answer] = []
         for line in lines:
             try:

@@ -1,4 +1,4 @@
-"""plan: asks about a change of topics, by a plan of rules that give topics new names.
+"""plan: shows what becomes of lists, scripts and subscriptions if topics get new names.
 
 Whether a translation is exact is for `mqroute-acl compare --plan` to say.
 Exit status: 0 nothing is to be looked at; 1 something is; 2 usage, or a plan, a list, a script or
@@ -13,10 +13,11 @@ from . import acl, check, compare, name, script
 RUN = {"check": check.run, "name": name.run, "acl": acl.run, "script": script.run,
        "compare": compare.run}
 PLAN = "the plan: lines FROM -> TO, keep FROM and none FROM"
-DESCRIPTION = """Asks about a change of topics. A plan has a rule on each line, and the first whose
-left side matches a topic decides. FROM -> TO: topics that the filter FROM matches get new names;
-its + may have names, as in +hall, and TO has these again. keep FROM: they keep their names. none
-FROM: there are no such topics, or no longer. A topic about which no rule is keeps its name."""
+DESCRIPTION = """Shows what becomes of lists, scripts and subscriptions if topics are renamed by a
+plan. A plan has a rule on each line, and the first whose FROM matches a topic decides about it.
+FROM -> TO: these topics get new names; a + of FROM may have a name, as in +hall, and TO may use it.
+keep FROM: they keep their names. none FROM: they have no new name, since nobody uses them. A topic
+that no FROM matches keeps its name, unless some TO matches it."""
 
 
 def add_arguments(parser: argparse.ArgumentParser) -> None:
@@ -80,7 +81,7 @@ def look_at_files(options: argparse.Namespace) -> None:
                                       or options.acl_file is not None):
             raise UsageFault("--bridge, --no-bridge and --acl-file need --moved")
         if options.no_bridge and (options.bridge is not None or options.acl_file is not None):
-            raise UsageFault("--bridge and --acl-file go without --no-bridge")
+            raise UsageFault("--bridge and --acl-file can't be used with --no-bridge")
     read = [named.get(name) for name in
             ("plan", "list", "script", "acl_file", "moved", "old_script", "new_script")]
     refuse_stdin_twice(read)

@@ -109,7 +109,7 @@ def refuse_unnamed(left: Side, right: Side) -> None:
 
 
 def numbered(side: Side) -> Side:
-    """With a number, which is no name, for each `+` without one."""
+    """With a number, which isn't a name, for each `+` without one."""
     count, made = 0, list(side)
     for place, item in enumerate(side):
         if item == Capture(""):

@@ -73,7 +73,7 @@ def read_lines(name: str) -> list[bytes]:
 
 
 def rewritten(translator: Translator, lines: list[bytes], is_moved: Moved = everyone) -> NewScript:
-    """What is no command stays as it is: mqroute refuses it."""
+    """An invalid line stays as it is: mqroute refuses it."""
     made = NewScript(lines)
     for number, line in enumerate(lines, 1):
         command = command_of(line) or {}
@@ -108,7 +108,7 @@ def new_commands(translator: Translator, made: NewScript, number: int,
 
 
 def new_topic(plan: Plan, topic: str) -> str | None:
-    """The new name, or None; a text that is no topic stays."""
+    """The new name, or None; a text that isn't a topic stays."""
     name = levels(topic)
     if not is_name(name):
         return topic
@@ -117,7 +117,7 @@ def new_topic(plan: Plan, topic: str) -> str | None:
 
 
 def new_filters(translator: Translator, text: str) -> list[str]:
-    """What is subscribed to in the place of a text; one that is no filter stays."""
+    """What is subscribed to in the place of a text; one that isn't a filter stays."""
     parts = split_share(text)
     if parts is None:
         return [text]

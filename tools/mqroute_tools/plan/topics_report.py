@@ -45,7 +45,7 @@ def report_topics(report: Report, plan: Plan, script: str, topics: Uses) -> None
     unused = [str(rule.line) for rule in plan.rules if (rule.line, rule.text) not in by_rule]
     if unused:
         word = "line" if len(unused) == 1 else "lines"
-        report.lines.append(f"no topic of it: {word} {', '.join(unused)}")
+        report.lines.append(f"{word} with no topic there: {', '.join(unused)}")
     report.blank()
     report_names(report, script, [topic for found in by_rule.values() for topic in found])
 

@@ -33,7 +33,7 @@ def fits_start(start: str, level: str) -> bool:
 
 
 def behind(start: str, level: str) -> str:
-    """An empty text alone is no name."""
+    """Only an empty text isn't a name."""
     return SLASH if start == PLAIN and level == "" else INSIDE
 
 

@@ -163,7 +163,7 @@ class Preview:
     carried: list[Carried] = field(default_factory=list)
 
     def changes(self) -> bool:
-        """Whether anything does; a remark alone is no change."""
+        """Whether anything does; remarks don't count."""
         return bool(self.users or self.refused or self.granted or self.taken
                     or self.subscriptions)
 

@@ -116,7 +116,7 @@ def receiving_nothing(lists: Lists, scripts: tuple[str, str],
 
 
 def asked_first(lists: Lists, steps: Steps) -> Answers:
-    """What wants no script, so that a list with a fault is refused before a long log is read."""
+    """What needs no script, so that a list with a fault is refused before a long log is read."""
     steps.next()
     rights, notes = lists.rights()
     steps.next()

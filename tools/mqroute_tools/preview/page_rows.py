@@ -90,7 +90,7 @@ class Rows:
 
     def right(self, one: Right) -> str:
         notes = client_of(one)
-        more = f"<div class='made-up'>{escaped(notes)}</div>" if notes else ""
+        more = f"<div class='placeholders'>{escaped(notes)}</div>" if notes else ""
         return row((head_cell(f"<bdi>{escaped(concerned(one, None))}</bdi>"),
                     cell(may(one), f"may {one.change}"),
                     cell(f"<code><bdi>{visible(topic_of(one))}</bdi></code>{more}", "topic"),
@@ -98,8 +98,9 @@ class Rows:
 
     def subscriptions(self) -> str:
         columns = Column("Client"), Column("User"), Column("Filter"), Column("Line of the script")
-        return table("in-vain", "What these clients subscribe to, the proposed list lets them read "
-                     "nothing of", columns, map(self.subscription, self.found.subscriptions))
+        return table("receive-nothing", "By the proposed list these clients may read no topic "
+                     "that the filter matches", columns,
+                     map(self.subscription, self.found.subscriptions))
 
     def subscription(self, one: Subscription) -> str:
         user = "none" if one.user is None else f"<bdi>{visible(one.user)}</bdi>"

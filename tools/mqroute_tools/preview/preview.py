@@ -47,7 +47,7 @@ def add_arguments(parser: argparse.ArgumentParser) -> None:
 def check(options: argparse.Namespace) -> None:
     """Refuses arguments that don't go together, and a file that is read and written."""
     if options.title is not None and options.html is None:
-        raise UsageFault("--title wants --html")
+        raise UsageFault("--title needs --html")
     read = [options.current, options.proposed, *options.source, options.begin, options.plan]
     refuse_stdin_twice(read)
     keep_apart(read, {"--html": options.html})

@@ -73,7 +73,7 @@ class Renaming:
             one.new = self.becomes(one.filter)
 
     def carried(self) -> Iterator[Carried]:
-        """What `mqroute-plan check --script` wants somebody to look at."""
+        """What `mqroute-plan check --script` lists."""
         found = Report()
         report_script(found, self.translator, self.name, self.made)
         for one in found.objects:

@@ -59,9 +59,9 @@ def sources_of(options: argparse.Namespace, folder: Path) -> list[Source]:
     sources = [source(name, folder, number) for number, name in enumerate(options.source)]
     if any(one.is_script for one in sources):
         if len(sources) > 1:
-            raise UsageFault("wants one script, or one log or more")
+            raise UsageFault("needs one script, or one log or more")
         for name in given_options(options):
-            raise UsageFault(f"{name} wants a log")
+            raise UsageFault(f"{name} needs a log")
     return sources
 
 

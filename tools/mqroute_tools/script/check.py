@@ -1,7 +1,7 @@
-"""check: names what is wrong in each line of a script that mqroute refuses whatever stands before:
-no JSON, an unknown command, a field that is missing, unknown, of another kind or out of range; a
-client id, a user name, a topic or a filter that is none. These are the lines that mqroute refuses
-with code 1 to 6 or 8 to 10.
+"""check: names what is wrong in each line of a script that mqroute refuses whatever the lines
+before it are: not JSON, an unknown command, a field that is missing, unknown, of another kind or
+out of range; a client id, a user name, a topic or a filter that isn't valid. These are the lines
+that mqroute refuses with code 1 to 6 or 8 to 10.
 
 Exit status: 0 nothing is wrong; 1 something is; 2 usage, a file, or a file without a command.
 """
@@ -10,7 +10,7 @@ import sys
 
 from ..common.files import STDIN, at, keep_apart, open_input
 from .commands import Seen, read_line
-from .output import Command, is_blank
+from .output import Command
 from .text_faults import shown, text_faults
 
 SHOWN = 20  # faulty lines of a file most of whose lines are invalid
@@ -44,18 +44,19 @@ class Subscribed:
 
 
 class Check:
-    """Prints what is wrong, of a file that is no script in the first lines alone."""
+    """Prints what is wrong, of a file that isn't a script only in the first lines."""
 
     def __init__(self, name: str) -> None:
         self.name, self.seen, self.subscribed = name, Seen(name), Subscribed()
         self.right = self.wrong = self.hidden = 0
 
     def line(self, number: int, line: bytes) -> None:
-        self.seen.add(line)
+        if not self.seen.has_command:
+            self.seen.add(line)
         command, faults = read_line(line.removesuffix(b"\n"))
         if command is not None:
             faults = list(text_faults(command))
-        self.right += not faults and not is_blank(line)
+            self.right += not faults
         self.wrong += bool(faults)
         if self.hidden or (faults and self.wrong > SHOWN and self.wrong > self.right):
             self.hidden += bool(faults)
@@ -77,9 +78,9 @@ class Check:
 
 def add_arguments(parser: argparse.ArgumentParser) -> None:
     parser.description = ("Names what is wrong in each line of a script that mqroute refuses "
-                          "whatever stands before.")
+                          "whatever the lines before it are.")
     parser.add_argument("script", nargs="?", default=STDIN,
-                        help="standard input where it is absent or -")
+                        help="standard input if it is absent or -")
 
 
 def run(options: argparse.Namespace) -> int:

@@ -38,6 +38,9 @@ COMMANDS: dict[str, dict[str, Field]] = {
     "advance": {"seconds": Field("number", True, high=18_446_744_073_709_551_615)},
     "stat": {},
 }
+FIELDS = {do: {"do": TEXT} | fields for do, fields in COMMANDS.items()}
+REQUIRED = {do: {name for name, field in fields.items() if field.required}
+            for do, fields in COMMANDS.items()}
 
 
 def shown(value: Any) -> str:
@@ -54,12 +57,24 @@ def guess(word: str, words: Iterable[str]) -> str:
 def value_fault(field: Field, value: Any) -> str:
     """What is wrong with a field's value; empty where nothing is."""
     if field.kind == "text":
-        return "" if isinstance(value, str) else "no text"
+        return "" if isinstance(value, str) else "not a text"
     if field.kind == "flag":
         return "" if isinstance(value, bool) else "neither true nor false"
     if isinstance(value, bool) or not isinstance(value, int):
-        return "no whole number"
+        return "not a whole number"
     return "" if field.low <= value <= field.high else f"not from {field.low:,} to {field.high:,}"
+
+
+def is_right(do: str, command: Command) -> bool:
+    """Whether the fields have no faults, as most commands have none."""
+    fields = FIELDS[do]
+    for name, value in command.items():
+        field = fields.get(name)
+        if field is None:
+            return False
+        if not (isinstance(value, str) and field.kind == "text") and value_fault(field, value):
+            return False
+    return REQUIRED[do] <= command.keys()
 
 
 def field_faults(do: str, command: Command) -> Iterator[str]:
@@ -70,7 +85,7 @@ def field_faults(do: str, command: Command) -> Iterator[str]:
         yield f"{do} has no field {shown(name)}{guess(name, absent)}"
     for name in absent:
         if fields[name].required:
-            yield f"{do} wants the field {json.dumps(name)}"
+            yield f"{do} needs the field {json.dumps(name)}"
     for name, field in fields.items():
         fault = value_fault(field, command[name]) if name in command else ""
         if fault:
@@ -80,14 +95,14 @@ def field_faults(do: str, command: Command) -> Iterator[str]:
 def value_faults(value: Any) -> list[str]:
     """What is wrong in a line's value; nothing where it is a command."""
     if not isinstance(value, dict):
-        return [f"{shown(value)} is no object"]
+        return [f"{shown(value)} is not an object"]
     if "do" not in value:
         return [f"\"do\" is missing{guess_of_do(value)}"]
     do = value["do"]
     if not isinstance(do, str) or do not in COMMANDS:
         return [f"there is no command {shown(do)}"
                 + (guess(do, COMMANDS) if isinstance(do, str) else "")]
-    return list(field_faults(do, value))
+    return [] if is_right(do, value) else list(field_faults(do, value))
 
 
 def guess_of_do(value: dict[str, Any]) -> str:
@@ -99,23 +114,23 @@ def read_line(line: bytes) -> tuple[Command | None, list[str]]:
     """The command on a line without its line feed, or None; and what is wrong in the line."""
     if len(line) > LINE_LIMIT:
         return None, [f"{len(line):,} bytes, where {LINE_LIMIT:,} may be"]
-    if is_blank(line):
+    if not line.startswith(b"{") and is_blank(line):
         return None, []
     try:
         value = read(line)
     except NoJson as fault:
-        return None, [f"no JSON: {fault}"]
+        return None, [f"not JSON: {fault}"]
     found = value_faults(value)
     return None if found else value, found
 
 
 def line_faults(line: bytes) -> list[str]:
-    """What is wrong in a line without its line feed, by which it is no command."""
+    """What is wrong in a line without its line feed, so that it is invalid."""
     return read_line(line)[1]
 
 
 def faults(lines: Iterable[bytes]) -> Iterator[tuple[int, str]]:
-    """The numbers of the lines that are no commands, each with what is wrong,
+    """The numbers of the invalid lines, each with what is wrong,
     once for each fault."""
     for number, line in enumerate(lines, 1):
         for fault in line_faults(line.removesuffix(b"\n")):

@@ -37,7 +37,7 @@ BINARY = ((b"\x1f\x8b", "a file packed by gzip"), (b"BZh", "a file packed by bzi
           (b"\xfd7zXZ\0", "a file packed by xz"), (b"\x28\xb5\x2f\xfd", "a file packed by zstd"),
           (b"PK\x03\x04", "a file packed by zip"), (b"\xff\xfe", "text in UTF-16"),
           (b"\xfe\xff", "text in UTF-16"))
-BYTES = "a file of bytes that are no text"
+BYTES = "a file of bytes that are not text"
 NO_TEXTS = {BYTES, *(what for _, what in BINARY)}
 
 

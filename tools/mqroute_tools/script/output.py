@@ -3,28 +3,44 @@ import json
 import re
 from collections import defaultdict
 from collections.abc import Iterable, Iterator
+from functools import lru_cache
 from typing import Any, NamedTuple
 
 from ..common.exit_status import Fault
 from ..common.files import at, open_text
 from .file_kinds import HEAD, kind
+from .json_lines import line_reader
 
 Command = dict[str, Any]  # a line of a script, as JSON has it
 Answer = dict[str, Any]  # and one of an output
 Key = tuple[str, str]  # client and topic
 COPY = '{"client":'  # mqroute prints names in ascending order: a copy alone begins so
-# a closing line or a refusal, but that of a `stat`
-CLOSING = re.compile(r'\{(?:"code":\d+,)?"line":(\d+),"re(?:ason":(\d+)|fused":"([A-Za-z]+)")\}$')
+# a closing line or a refusal, but that of a `stat`: around the number of its line
+BEGIN = re.compile(r'\{(?:"code":\d+,)?')
+END = re.compile(r'"re(?:ason":(\d+)|fused":"([A-Za-z]+)")\}$')
 TEXT = r'[^"\\\x00-\x1f]*'  # a text of JSON without escapes
-# a copy without escapes: its client, payload, QoS, RETAIN, group and topic
-PLAIN = re.compile(
-    rf'\{{"client":"({TEXT})"(?:,"expiry":\d+)?(?:,"filter":"{TEXT}")?(?:,"ids":\[[\d,]*\])?'
-    rf',"line":\d+,"payload":"({TEXT})",'
-    rf'"qos":([012]),"retain":(true|false)(?:,"share":"({TEXT})")?,"topic":"({TEXT})"\}}\n')
+# a copy without escapes: up to the number of its line, with the client
+FRONT = re.compile(
+    rf'\{{"client":"({TEXT})"(?:,"expiry":\d+)?(?:,"filter":"{TEXT}")?(?:,"ids":\[[\d,]*\])?')
+# and behind it, with its payload, QoS, RETAIN, group and topic
+BACK = re.compile(
+    rf'"payload":"({TEXT})","qos":([012]),"retain":(true|false)(?:,"share":"({TEXT})")?'
+    rf',"topic":"({TEXT})"\}}\n')
+REMEMBERED = 1 << 12  # of both, those of copies
+MOST_REMEMBERED = 300  # characters of a copy
 # of other commands 0, and of a subscribe its QoS
 REASONS = {"publish": (0, 16), "unsubscribe": (0, 17)}
 SHOWN = 60  # characters of a line
-read_json = json.JSONDecoder().decode
+read_json = line_reader(json.JSONDecoder())
+
+
+class Message(NamedTuple):
+    """What a copy shows beside its client and line."""
+    payload: str
+    qos: int
+    retain: bool
+    shared: bool
+    topic: str
 
 
 class Block(NamedTuple):
@@ -78,25 +94,68 @@ def no_answer(text: str, number: int) -> str:
     return "no answer of mqroute" + (f": looks like {what}" if what else "")
 
 
+@lru_cache(REMEMBERED)
+def meaning(begin: str, end: str) -> tuple[int | None, str | None] | None:
+    """The reason and the refusal of a closing line, by what stands around the number of its line;
+    None where that is of another form."""
+    found = END.match(end) if BEGIN.fullmatch(begin) else None
+    if found is None:
+        return None
+    reason, refused = found.groups()
+    return int(reason) if reason else None, refused
+
+
 def closed(text: str, copies: list[str]) -> Block:
     """The answer that a closing line ends."""
-    found = CLOSING.match(text)
-    if found:
-        line, reason, refused = found.groups()
-        return Block(int(line), copies, int(reason) if reason else None, refused, text)
+    begin, _, rest = text.partition('"line":')
+    number, _, end_text = rest.partition(",")
+    meant = meaning(begin, end_text)
+    if meant is not None and number.isdecimal():
+        # as Block(..) makes it, by one call less
+        return tuple.__new__(Block, (int(number), copies, *meant, text))
     end = read_json(text)
     accepted = "reason" in end or "nodes" in end
     return Block(int(end["line"]), copies, end.get("reason"),
                  None if accepted else str(end["refused"]), text)
 
 
+def client_of(front: str) -> str | None:
+    found = FRONT.fullmatch(front)
+    return found[1] if found else None
+
+
+def message_of(back: str) -> Message | None:
+    found = BACK.fullmatch(back)
+    if found is None:
+        return None
+    payload, qos, retain, share, topic = found.groups()
+    return Message(payload, int(qos), retain == "true", share is not None, topic)
+
+
+# most copies differ from an earlier one in the number of their line alone
+known_client_of = lru_cache(REMEMBERED)(client_of)
+known_message_of = lru_cache(REMEMBERED)(message_of)
+
+
+def plain_copy(text: str) -> tuple[str, Message] | None:
+    """The client and the message of a copy without escapes; None of another one."""
+    front, _, rest = text.partition(',"line":')
+    number, _, back = rest.partition(",")
+    if len(text) <= MOST_REMEMBERED:
+        client, message = known_client_of(front), known_message_of(back)
+    else:
+        client, message = client_of(front), message_of(back)
+    if client is None or message is None or not number.isdecimal():
+        return None
+    return client, message
+
+
 def by_key(copies: list[str], name: str = "the output") -> defaultdict[Key, list[str]]:
     """The copies of each client and topic, read without JSON where they are plain."""
     found: defaultdict[Key, list[str]] = defaultdict(list)
-    match = PLAIN.fullmatch
     for text in copies:
-        plain = match(text)
-        found[(plain[1], plain[6]) if plain else key_of(text, name)].append(text)
+        plain = plain_copy(text)
+        found[(plain[0], plain[1].topic) if plain else key_of(text, name)].append(text)
     return found
 
 

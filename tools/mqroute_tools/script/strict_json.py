@@ -4,17 +4,19 @@ import json
 import re
 from typing import Any
 
+from .json_lines import line_reader
+
 MOST_NESTING = 127
 STRING = re.compile(r'"[^"\\]*(?:\\.[^"\\]*)*"', re.S)
 SURROGATE = re.compile("[\ud800-\udfff]")
 
 
 class NoJson(Exception):
-    """Why the line is no JSON."""
+    """Why the line isn't JSON."""
 
 
 def constant(text: str) -> Any:
-    raise NoJson(f"{text} is no number in JSON")
+    raise NoJson(f"{text} is not a number in JSON")
 
 
 def real(text: str) -> float:
@@ -31,7 +33,8 @@ def whole(text: str) -> int | float:
 
 
 # of a line without an escape that may be half of a surrogate pair
-read_plain = json.JSONDecoder(parse_constant=constant, parse_float=real, parse_int=whole).decode
+read_plain = line_reader(
+    json.JSONDecoder(parse_constant=constant, parse_float=real, parse_int=whole))
 
 
 def has_half(value: Any) -> bool:
@@ -67,7 +70,8 @@ def read(line: bytes) -> Any:
     """The value on the line, or NoJson."""
     try:
         text = line.decode("utf-8")
-        if line.count(b"[") + line.count(b"{") > MOST_NESTING and nesting(text) > MOST_NESTING:
+        if (len(line) > MOST_NESTING and line.count(b"[") + line.count(b"{") > MOST_NESTING
+                and nesting(text) > MOST_NESTING):
             raise NoJson(f"nested deeper than {MOST_NESTING}")
         if b"\\u" not in line:
             return read_plain(text)

@@ -1,5 +1,5 @@
-"""What is wrong with the texts of a command, for which mqroute refuses it whatever stands before:
-client ids, user names, topics, filters."""
+"""What is wrong with the texts of a command, for which mqroute refuses it whatever the lines
+before it are: client ids, user names, topics, filters."""
 import json
 from collections.abc import Iterator
 
@@ -14,7 +14,8 @@ SHARE = "$share/"
 
 def size_fault(text: str) -> str:
     """Of a text that may be empty (1.5.4)."""
-    if len(text.encode("utf-8")) > MOST_BYTES:
+    # a character has at most four bytes
+    if 4 * len(text) > MOST_BYTES and len(text.encode("utf-8")) > MOST_BYTES:
         return f"it has more than {MOST_BYTES:,} bytes"
     return "it has U+0000" if "\0" in text else ""
 
@@ -30,13 +31,19 @@ def level_fault(text: str) -> str:
         else ""
 
 
+def has_wildcard(text: str) -> bool:
+    return "+" in text or "#" in text
+
+
 def name_fault(topic: str) -> str:
-    """Why this is no topic name (4.7.1, 4.7.3); empty where it is one."""
-    wildcard = "it has a wildcard" if set(WILDCARDS) & set(topic) else ""
+    """Why this isn't a topic name (4.7.1, 4.7.3); empty where it is one."""
+    wildcard = "it has a wildcard" if has_wildcard(topic) else ""
     return text_fault(topic) or wildcard or level_fault(topic)
 
 
 def wildcard_fault(wanted: str) -> str:
+    if not has_wildcard(wanted):
+        return ""
     *parents, last = wanted.split("/")
     if any("#" in level for level in parents):
         return "it has # before its last level"
@@ -53,7 +60,7 @@ def share_fault(text: str) -> str:
     name, _, wanted = text.removeprefix(SHARE).partition("/")
     if not name:
         return "it has no share name"
-    if set(WILDCARDS) & set(name):
+    if has_wildcard(name):
         return "its share name has a wildcard"
     return "" if wanted else "it has no filter behind its share name"
 
@@ -70,9 +77,10 @@ FAULTS = {"client": text_fault, "user": size_fault, "topic": name_fault, "filter
 def text_faults(command: Command) -> Iterator[str]:
     """What is wrong, each behind its field. Each field is as the command may have it."""
     for name, fault_of in FAULTS.items():
-        fault = fault_of(command[name]) if name in command else ""
-        if fault:
-            yield f"{name} is {shown(command[name])}: {fault}"
+        if name in command:
+            fault = fault_of(command[name])
+            if fault:
+                yield f"{name} is {shown(command[name])}: {fault}"
     if command.get("no_local") and command["filter"].startswith(SHARE):
         yield "no_local is true: a shared subscription has no No Local"
 

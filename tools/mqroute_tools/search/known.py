@@ -79,7 +79,7 @@ def known_differences(folder: Path, has_lists: bool, has_clock: bool) -> Iterato
 def why_left_out(file: Path, script: list[Command], has_lists: bool, has_clock: bool) -> str:
     does = {command["do"] for command in script}
     if file.with_suffix(".options").exists() or file.with_suffix(".conf").exists():
-        return "it wants a broker with options of its own"
+        return "it needs a broker with options of its own"
     if "acl" in does and not has_lists:
         return "it has an access list: give --on-acl"
     return "it moves the clock: give --clock" if "advance" in does and not has_clock else ""

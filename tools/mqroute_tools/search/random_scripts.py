@@ -222,7 +222,7 @@ class RandomScript:
         return {"qos": self.use.qos()} if self.use.has("qos") else {}
 
     def kept(self, seconds: int = KEPT) -> Command:
-        """A session that lasts, begun anew where the protocol can say so."""
+        """A session that lasts, a new one where the protocol can say so."""
         if self.use.has(OLD_SESSIONS):
             return {"clean": False, "session_expiry": FOREVER}
         return {"clean": True, "session_expiry": seconds}

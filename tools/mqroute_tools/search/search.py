@@ -3,8 +3,8 @@ both, each that differs made as small as it goes on differing in that way.
 
 The broker must be one that may be tried with anything, with no access list (but those of --on-acl)
 and no other clients: sessions and retained messages are made and removed. What its CONNACK doesn't
-offer isn't asked for. Differences that the scripts in a --known FOLDER show, as they are stored
-there, are passed over.
+offer isn't tried. Differences that the scripts in a --known FOLDER show, as they are stored
+there, are skipped.
 Exit status: 0 nothing new was found; 1 something was; 2 usage, a file, the broker, or no script
 was run.
 """
@@ -126,7 +126,8 @@ def add_what(parser: argparse.ArgumentParser) -> None:
     parser.add_argument("--without", type=parts, action="extend", default=[], metavar="PART,..",
                         help=f"leave these out of the scripts: {', '.join(ALL)}")
     parser.add_argument("--known", type=Path, action="append", default=[], metavar="FOLDER",
-                        help="pass over what the scripts NAME.jsonl in it show as NAME.diff has it")
+                        help="also ignore the differences that the scripts NAME.jsonl in it show, "
+                        "as NAME.diff has them")
 
 
 def add_arguments(parser: argparse.ArgumentParser) -> None:
@@ -162,7 +163,7 @@ def run(options: argparse.Namespace) -> int:
 
 def on_broker(where: BrokerOptions, oracle: Oracle, known: list[Known],
               options: argparse.Namespace) -> Report:
-    from ..live.live_broker import LiveBroker  # wants paho
+    from ..live.live_broker import LiveBroker  # needs paho
     until = time.monotonic() + 60 * options.minutes
     broker = LiveBroker(where)
     say_of_held(broker.held)

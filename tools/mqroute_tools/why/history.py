@@ -144,7 +144,7 @@ class History:
     def serve(self, number: int, client: str, group: str) -> None:
         member = self.session(number, client).subscriptions.get(group)
         if member is None:
-            raise Disagreement(number, f"{shown(client)} is no member of {shown(group)}")
+            raise Disagreement(number, f"{shown(client)} is not a member of {shown(group)}")
         member.turn = number
 
     def advance(self, number: int, seconds: int) -> None:

@@ -102,7 +102,7 @@ class Reckoning:
         if session is None or session.left:
             return "NotConnected", f"{shown(client)}: {self.absence(client)}", None
         if fault:
-            return "TopicName", f"{fault}, and is no topic name", None
+            return "TopicName", f"{fault}, and isn't a topic name", None
         verdict = self.access.verdict(client, session.user, topic, "write")
         if not may(verdict):
             words = self.access.words(verdict, session.user)

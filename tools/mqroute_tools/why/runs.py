@@ -45,7 +45,7 @@ class Runs:
             raise Fault(str(fault).replace(self.given.path, named(self.given.name))) from fault
 
     def all(self, number: int) -> dict[int, Block]:
-        """The answers to the script, by its lines, as far as they tell of the publish on this
+        """The answers to the script, by its lines, as far as they are about the publish on this
         line: all other copies are left out."""
         wanted = WantedCopies(self.script, number)
         return {block.line: wanted.of(block) for block in self.answers(self.script.lines)}

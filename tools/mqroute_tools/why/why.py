@@ -45,17 +45,17 @@ def add_arguments(parser: argparse.ArgumentParser) -> None:
 
 def look_at_options(options: argparse.Namespace) -> None:
     if options.client is not None and options.named is not None:
-        raise UsageFault("--client goes without CLIENT")
+        raise UsageFault("--client can't be used with CLIENT")
     if options.log:
         if options.script is not None:
-            raise UsageFault("--log goes without SCRIPT and LINE")
+            raise UsageFault("--log can't be used with SCRIPT and LINE")
         if options.topic is None or options.at is None:
-            raise UsageFault("--log wants --topic and --at")
+            raise UsageFault("--log needs --topic and --at")
     elif options.line is None:
-        raise UsageFault("wants SCRIPT and LINE, or --log")
+        raise UsageFault("needs SCRIPT and LINE, or --log")
     else:
         for name in given_options(options, OF_LOG):
-            raise UsageFault(f"{name} wants --log")
+            raise UsageFault(f"{name} needs --log")
     files = [options.script, options.acl_file, options.begin, *(options.log or ())]
     refuse_stdin_twice(files)
     keep_apart(files)

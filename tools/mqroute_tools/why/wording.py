@@ -60,7 +60,7 @@ def mismatch(wanted: str, topic: str) -> tuple[int, str]:
         if level not in ("+", own):
             return place, f"level {place + 1} is {quoted(level)}, and the topic has {quoted(own)}"
     least = f"at least {len(levels) - 1}" if levels[-1] == "#" else f"{len(levels)}"
-    return min(len(levels), len(name)), f"it wants {least} levels, and the topic has {len(name)}"
+    return min(len(levels), len(name)), f"it needs {least} levels, and the topic has {len(name)}"
 
 
 def nearest(session: Session, topic: str) -> list[str]:
