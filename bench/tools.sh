@@ -1,5 +1,5 @@
 #!/bin/sh
-# Lines a second and peak memory of the tools that read files, on a log made up from the recorded ones:
+# Lines a second and peak memory of the tools that read files, on a log made of the recorded ones:
 # bench/tools.sh [MEGABYTES [FOLDER]] (500, and a temporary folder). Prints a table for bench/README.md, with two of them at work
 # at a time; takes some ten minutes.
 # Two more run on a plant's day. replay.py and search.py wait for a broker, and have no lines a second of their own.
