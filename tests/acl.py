@@ -160,7 +160,7 @@ FAULTY = [
      "2: a level or a user name of more than 300 bytes"),
 ]
 
-# Lists that are no UTF-8, and the line of the first byte that makes them none.
+# Lists that aren't UTF-8, and the line of the first byte that isn't.
 NO_TEXTS = [(b"topic read \xe9\n", 1), (b"topic read \xc3\xa9\n\ntopic read \xc3\n", 3),
             (b"# \xf0\x9f\x98\x80\n\xff\n\xfe\n", 2),
             (b"user a\n\xe2\x82", 2)]
@@ -318,7 +318,7 @@ def faults_of_refusals(folder):
 
 
 def faults_of_odd_scripts(folder):
-    """Lines that a broker refuses, that are no commands or too long, and a script
+    """Lines that a broker refuses, that are invalid or too long, and a script
     without a last line feed."""
     pathlib.Path(folder, "a.acl").write_text(
         "topic read a\ntopic read b/" + "c" * 300 + "\ntopic read d/+\n")
@@ -356,7 +356,7 @@ def faults_of_odd_scripts(folder):
 
 
 def faults_of_logs(folder):
-    """Logs of mosquitto are no scripts."""
+    """Logs of mosquitto aren't scripts."""
     pathlib.Path(folder, "a.acl").write_text("topic read a\n")
     logs = [path.read_text(encoding="utf-8")
             for path in sorted((TOP / "brokers/recorded").glob("*.log"))]

@@ -70,7 +70,7 @@ def check(top):
     assert [line.split(" after ")[0] for line in out.splitlines()[:3]] == [
         " 1 of 3  words           ", " 2 of 3  mqroute         ", " 3 of 3  mqroute_acl     "], out
     assert (top / "bin/mqroute-acl").read_text() == "mqroute_acl\n"
-    # a tool has its own name, and is no link, at which the toolchain would stop
+    # a tool has its own name, and isn't a link, at which the toolchain would stop
     tool = top / "bin/mqroute-who-hears"
     assert not tool.is_symlink()
     shown = subprocess.run([tool, "x"], capture_output=True, text=True, check=True).stdout

@@ -1,4 +1,4 @@
-"""What the tests of this folder have in common that look for faults and tell of each."""
+"""What the tests of this folder have in common that look for faults and report each."""
 
 
 def is_absent(test, program):

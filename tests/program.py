@@ -209,7 +209,7 @@ def faults_of_devices(folder):
                 [PROGRAM, *arguments], stdout=full, stderr=subprocess.PIPE, cwd=folder, timeout=60)
         if (shown.stderr, shown.returncode) != (b"mqroute: write fault\n", 3):
             yield f"mqroute {arguments} on a full device: {shown}"
-    # What can't be shown is passed over: the status is as if it had been shown.
+    # What can't be shown is left out: the status is as if it had been shown.
     for argument, status in (("nowhere", 2), ("--bad", 2), (".", 3)):
         with open("/dev/full", "wb") as full:
             done = subprocess.run(
