@@ -32,6 +32,7 @@ run: mended
 check: programs
 	tests/layers.py
 	tests/sources.py
+	tests/linted.sh
 	tests/rows.sh
 	tests/acl_rows.py
 	tests/program.py
@@ -44,12 +45,12 @@ check: programs
 	tests/readme.py
 	tests/links.py
 	tests/package.sh
-	tests/linted.sh
 	python3 -m unittest discover -s tools/tests
 
 test: mended
 	tests/layers.py
 	tests/sources.py
+	tests/linted.sh
 	rt ci
 	dev/build.py --of-gate
 	tests/refused.sh
