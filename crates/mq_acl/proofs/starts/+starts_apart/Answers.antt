@@ -2,7 +2,7 @@ use Rattle.std.proofs.Common.{◌≡◌, sym, ◌∙◌, false, ◌==◌, rules,
 use Rattle.std.proofs.lemmas.Bool.{not-true}
 use Rattle.std.proofs.lemmas.Bool.Decides.{nat_tests}
 use Rattle.mq_acl.proofs.StartLemmas.{apart_at_once, apart_behind}
-use Rattle.mq_acl.proofs.check.+starts_apart.Goals as goal
+use Rattle.mq_acl.proofs.starts.+starts_apart.Goals as goal
 
 pub returns-then-wanted-byte : goal.returns-then-wanted-byte
 returns-then-wanted-byte t c = λ e.
