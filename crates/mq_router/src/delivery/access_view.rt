@@ -41,8 +41,8 @@ impl<'a> AccessView<'a> {
         known: &mut Option<Known<'a>>,
     ) -> bool
         requires { IsKnown self.now.access.now name.now known.old }
-        ensures value { result ≡ allowed self.now.access.now client.now (option_copied user)
-            name.now Reading }
+        ensures value { result ≡ allowed self.now.access.now client.now
+            (option_copied user.entry) name.now Reading }
         ensures known { IsKnown self.now.access.now name.now known.new }
     {
         let Some(acl) = self.access else {
