@@ -2,6 +2,7 @@
 use Rattle.std.proofs.Common.{◌≡◌, ◌⊎◌, ℕ, Bool, true, false, not, ◌&&◌, ◌||◌, ◌==◌, List}
 use Rattle.std.proofs.Common.{[], ◌∷◌, arith, inl, inr, refl, ap, sym, ◌∙◌, length, cond}
 use Rattle.std.proofs.Common.{Option, None, codes, true≢false, ◌++◌, subst₂}
+use Rattle.std.proofs.Common.{◌<◌, ◌+◌, drop, drop-cons, get_or, suc}
 use Rattle.std.specs.Prelude.{nat_le}
 use Rattle.std.proofs.lemmas.Bool.Decides.{nat_tests}
 use Rattle.std.specs.List.{onto_first}
@@ -192,3 +193,10 @@ not_matched name filter valid apart =
     let may = not (length ns == 0) && not (is_hidden fs ns) in
     sym (ap (λ b. may && b) (apart_levels Anonymous [] None fs ns
     (levels_apart filter name (name_is_plain name valid) apart)) ∙ and_none may)
+
+-- what stands from a place on
+pub from_place : (xs : List ℕ) (at : ℕ) → at < length xs
+    → drop at xs ≡ get_or xs at 0 ∷ drop (at + 1) xs
+from_place xs at within =
+    let next : suc at ≡ at + 1 = omega arith in
+    drop-cons xs at 0 within ∙ ap (λ k. get_or xs at 0 ∷ drop k xs) next

@@ -14,14 +14,13 @@ fn is_special(byte: u8) -> bool
 pub(crate) fn starts_apart(filter: &[u8], name: &[u8]) -> bool
     ensures { result ≡ true → StartsApart filter.now name.now }
 {
-    let (Some((wanted, filter_rest)), Some((byte, name_rest))) = (
-        filter.split_first(),
-        name.split_first(),
-    ) else {
-        return false;
-    };
-    if wanted != byte {
-        return !is_special(*wanted);
+    let most = filter.len().min(name.len());
+    let mut at = 0;
+    'same: while at < most && filter[at] == name[at] && filter[at] != b'%' {
+        at += 1;
     }
-    *wanted != b'%' && starts_apart(filter_rest, name_rest)
+    if at == most {
+        return false;
+    }
+    filter[at] != name[at] && !is_special(filter[at])
 }
