@@ -24,6 +24,8 @@ ROWS = [
      "scripts.py list 10000"),
     ("a publish that the last of 10,000 lines of one user grant", "scripts.py rules 10000 60 9900",
      12, "scripts.py list 10000"),
+    ("a publish to 100 clients of the user of 1,000 lines", "scripts.py colleagues 100 40 900",
+     201, "scripts.py list 1000"),
     ("a publish to 5 subscribers, 10 users of ten lines each", "scripts.py users 220", 30,
      "scripts.py userlist 10"),
     ("a publish to 5 subscribers, 10,000 users of ten lines each", "scripts.py users 220", 30,

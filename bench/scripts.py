@@ -6,6 +6,8 @@ big BYTES                     publishes that nobody receives, until the script h
 rules LINES PUBLISHES [FIRST] PUBLISHES publishes for an access list of LINES lines, as `list`
                               writes it, which its first lines grant, or those from FIRST on
 list LINES                    that access list
+colleagues CLIENTS PUBLISHES FIRST  publishes to CLIENTS subscribers of the user of that list, which
+                              its lines from FIRST on grant
 users PUBLISHES               publishes to 5 subscribers for the access list that `userlist` writes
 userlist USERS                an access list of ten lines each for USERS users
 others OTHERS PUBLISHES       publishes to 5 subscribers beside OTHERS subscriptions that
@@ -72,6 +74,15 @@ def rules(lines, publishes, first=0):
     line(do="subscribe", client="client", filter="#")
     for i in range(publishes):
         line(do="publish", client="client", topic=f"area/{(first + i) % lines}/state")
+
+
+def colleagues(clients, publishes, first):
+    line(do="connect", client="sensor", user="user-1")
+    for i in range(clients):
+        line(do="connect", client=f"client-{i}", user="user-1")
+        line(do="subscribe", client=f"client-{i}", filter="area/#")
+    for i in range(publishes):
+        line(do="publish", client="sensor", topic=f"area/{first + i}/state")
 
 
 def access_list(lines):
@@ -227,9 +238,10 @@ def resuming(away, resumes):
         line(do="connect", client=f"away-{i}", clean=False, session_expiry=3600)
 
 
-kinds = {"overlapping": overlapping, "lasting": lasting, "sessions": sessions, "resuming": resuming,
-         "five": five, "big": big, "users": users, "userlist": user_list,
-         "rules": rules, "list": access_list, "others": others, "groups": groups,
-         "leaving": leaving, "retained": retained, "expiring": expiring, "returning": returning,
-         "refused": refused, "receivers": receivers, "members": members, "all": all_retained}
+kinds = {"colleagues": colleagues, "overlapping": overlapping, "lasting": lasting,
+         "sessions": sessions, "resuming": resuming, "five": five, "big": big, "users": users,
+         "userlist": user_list, "rules": rules, "list": access_list, "others": others,
+         "groups": groups, "leaving": leaving, "retained": retained, "expiring": expiring,
+         "returning": returning, "refused": refused, "receivers": receivers, "members": members,
+         "all": all_retained}
 kinds[sys.argv[1]](*(int(n) for n in sys.argv[2:]))

@@ -6,3 +6,4 @@ pub mod RowLemmas
 pub mod WordLemmas
 pub mod FilledLemmas
 pub mod MosquittoLemmas
+pub mod ClientLemmas

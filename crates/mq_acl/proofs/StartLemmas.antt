@@ -1,13 +1,14 @@
 -- Texts that differ before a wildcard or a mark: the levels don't match.
 use Rattle.std.proofs.Common.{◌≡◌, ◌⊎◌, ℕ, Bool, true, false, not, ◌&&◌, ◌||◌, ◌==◌, List}
 use Rattle.std.proofs.Common.{[], ◌∷◌, arith, inl, inr, refl, ap, sym, ◌∙◌, length, cond}
-use Rattle.std.proofs.Common.{Option, codes, true≢false, ◌++◌, subst₂}
+use Rattle.std.proofs.Common.{Option, None, codes, true≢false, ◌++◌, subst₂}
+use Rattle.std.proofs.Common.{◌<◌, ◌+◌, drop, drop-cons, get_or, suc}
 use Rattle.std.specs.Prelude.{nat_le}
 use Rattle.std.proofs.lemmas.Bool.Decides.{nat_tests}
 use Rattle.std.specs.List.{onto_first}
 use Rattle.std.specs.Str.{bytes_eq}
 use Rattle.mq_topic.specs.Levels.{is_slash, levels}
-use Rattle.mq_topic.specs.Matching.{levels_match_by}
+use Rattle.mq_topic.specs.Matching.{is_hidden, levels_match_by, matches}
 use Rattle.mq_topic.proofs.Walk.{levels_match_cons}
 use Rattle.mq_acl.specs.Access.{begins_with_dollar, covers, row_level_matches}
 use Rattle.mq_acl.specs.Rows.{AclRow, Who, Anonymous, Named, Everyone}
@@ -182,3 +183,20 @@ apart_behind x y fs ns filter name is_filter is_name same unmarked rest = record
   literal = rest.literal;
   differ = rest.differ;
 }
+
+-- and one that starts apart from the name doesn't match it
+pub not_matched : (name filter : List ℕ) → is_name name ≡ true → StartsApart filter name
+    → false ≡ matches (levels filter) (levels name)
+not_matched name filter valid apart =
+    let fs = levels filter in
+    let ns = levels name in
+    let may = not (length ns == 0) && not (is_hidden fs ns) in
+    sym (ap (λ b. may && b) (apart_levels Anonymous [] None fs ns
+    (levels_apart filter name (name_is_plain name valid) apart)) ∙ and_none may)
+
+-- what stands from a place on
+pub from_place : (xs : List ℕ) (at : ℕ) → at < length xs
+    → drop at xs ≡ get_or xs at 0 ∷ drop (at + 1) xs
+from_place xs at within =
+    let next : suc at ≡ at + 1 = omega arith in
+    drop-cons xs at 0 within ∙ ap (λ k. get_or xs at 0 ∷ drop k xs) next

@@ -10,3 +10,4 @@ pub mod Filled
 pub mod Mosquitto
 pub mod MosquittoLines
 pub mod AccessLists
+pub mod Clients

@@ -1,8 +1,12 @@
 ghost use Rattle.std.specs.Prelude.{◌≡◌, ◌≢◌, ◌⊎◌, ◌<◌, MatchResult, IfOk, IfErr, Ok, Err, Some};
+ghost use Rattle.std.specs.Prelude.{false, ℕ, List, Option};
+ghost use Rattle.std.specs.List.{list_any};
 ghost use Rattle.std.specs.Option.{option_copied};
 ghost use Rattle.mq_acl.specs.Rows.{out_of_memory, rows_by, rows_of};
 ghost use Rattle.mq_acl.specs.AccessLists.{allowed};
-ghost use Rattle.mq_acl.specs.Views.{row_views};
+ghost use Rattle.mq_acl.specs.Clients.{ask_client, asks_client, is_client_mark};
+ghost use Rattle.mq_topic.specs.Levels.{levels};
+ghost use Rattle.mq_acl.specs.Views.{row_view, row_views};
 ghost use Rattle.mq_acl.specs.declared.access.Direction.TheVariants.{Reading, Writing};
 
 use crate::access::Direction;
@@ -10,10 +14,10 @@ use crate::check::rows_allow;
 use crate::fault::{AclFault, AclKind};
 use crate::mosquitto::mosquitto_allows;
 use crate::read::read_rows_by;
-use crate::row::Row;
+use crate::row::{Owner, Row};
 use crate::rows_by_access::RowsByAccess;
 use crate::rules::Rules;
-use mq_topic::TopicName;
+use mq_topic::{LevelText, TopicFilter, TopicName};
 use std::alloc::{AllocError, Global};
 use std::fmt;
 use std::marker::Model;
@@ -23,6 +27,8 @@ use std::snapshot::Snapshot;
 pub struct Acl {
     rules: Rules,
     by_access: RowsByAccess,
+    /// Whether what they decide may depend on the client id.
+    asks_client: bool,
     /// The rows as they stand in the text, for contracts alone.
     order: Snapshot<Vec<Row>>,
 }
@@ -33,6 +39,7 @@ impl Drop for Acl {
         let Acl {
             rules: _,
             by_access: _,
+            asks_client: _,
             order: _,
         } = self;
     }
@@ -44,11 +51,35 @@ impl Model for Acl {
 
     ghost Value = { AccessList };
 
+    ghost use Rattle.std.specs.Prelude.{◌≡◌};
+    ghost use Rattle.mq_acl.specs.Clients.{ask_client};
     ghost use Rattle.mq_acl.specs.RowsByAccess.{IsSplit};
 
     ghost view = { λ acl. record { rules = acl.rules; rows = row_views acl.order.value.items } };
 
-    ghost invariant = { λ acl. IsSplit (row_views acl.order.value.items) acl.by_access };
+    ghost invariant = { λ acl. IsSplit (row_views acl.order.value.items) acl.by_access
+        × (acl.asks_client ≡ ask_client acl.rules (row_views acl.order.value.items)) };
+}
+
+// Whether what the row covers may depend on the client id.
+fn asks_client(rules: Rules, row: &Row) -> bool
+    ensures { result ≡ asks_client rules (row_view row.now) }
+{
+    matches!(row.owner, Owner::Everyone)
+        && (rules == Rules::Mosquitto || has_client_mark(&row.filter))
+}
+
+fn has_client_mark(filter: &TopicFilter) -> bool
+    ensures { result ≡ list_any is_client_mark (levels filter.now) }
+{
+    filter.text().split('/').any(|level| level == "%c")
+}
+
+// Whether what the rows decide may depend on it.
+fn ask_client(rules: Rules, rows: &[Row]) -> bool
+    ensures { result ≡ list_any (λ row. asks_client rules (row_view row)) rows.now }
+{
+    rows.iter().any(|row| asks_client(rules, row))
 }
 
 impl Acl {
@@ -95,12 +126,25 @@ impl Acl {
         ensures { IfOk result (λ acl. acl ≡ record { rules = rules; rows = row_views rows.items }) }
     {
         let order = Snapshot::of(&rows);
+        let asks_client = ask_client(rules, &rows);
         let by_access = RowsByAccess::of(alloc, rows)?;
         Ok(Acl {
             rules,
             by_access,
+            asks_client,
             order,
         })
+    }
+
+    /// Whether what the list allows may depend on the client id. Where it doesn't, all clients of a
+    /// user name, and all without one, may do the same.
+    pub fn asks_client(&self) -> bool
+        ensures value { result ≡ ask_client self.now.rules self.now.rows }
+        ensures same { result ≡ false → (a b : List ℕ) (user : Option (List ℕ)) (name : List ℕ)
+            (direction : Direction) → allowed (Some self.now) a user name direction
+            ≡ allowed (Some self.now) b user name direction }
+    {
+        self.asks_client
     }
 
     // Whether the rows allow it by the list's rules.

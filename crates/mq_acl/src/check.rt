@@ -5,7 +5,6 @@ ghost use Rattle.mq_acl.specs.Access.{row_level_matches, begins_with_dollar, cov
 ghost use Rattle.mq_acl.specs.Access.{grants, concerns, rows_allow};
 ghost use Rattle.mq_acl.specs.Rows.{AclRow};
 ghost use Rattle.mq_acl.specs.RowsByAccess.{IsSplit};
-ghost use Rattle.mq_acl.specs.Starts.{StartsApart, is_special};
 ghost use Rattle.mq_acl.specs.RowsByOwner.{IsGrouped};
 ghost use Rattle.mq_topic.specs.Levels.{levels};
 ghost use Rattle.mq_topic.specs.Matching.{levels_match_by};
@@ -15,6 +14,7 @@ use crate::access::{Direction, grants};
 use crate::row::{Owner, Row};
 use crate::rows_by_access::RowsByAccess;
 use crate::rows_by_owner::RowsByOwner;
+use crate::starts::starts_apart;
 use mq_topic::{LevelTest, LevelText, TopicName, levels_match};
 
 // The levels of a row, for one client.
@@ -45,31 +45,9 @@ fn dollar_fits(filter: &str, name: &str) -> bool
     !name.starts_with('$') || filter.starts_with('$')
 }
 
-// A byte that a wildcard or a mark begins with.
-fn is_special(byte: u8) -> bool
-    ensures { result ≡ is_special byte }
-{
-    byte == b'#' || byte == b'+' || byte == b'%'
-}
-
-// Whether the name differs from what the filter has before such a byte: most rows of a long list
-// are passed over so. A name has no wildcards, so that bytes that both have are none.
-fn starts_apart(filter: &[u8], name: &[u8]) -> bool
-    ensures { result ≡ true → StartsApart filter.now name.now }
-{
-    let (Some((wanted, filter_rest)), Some((byte, name_rest))) = (
-        filter.split_first(),
-        name.split_first(),
-    ) else {
-        return false;
-    };
-    if wanted != byte {
-        return !is_special(*wanted);
-    }
-    *wanted != b'%' && starts_apart(filter_rest, name_rest)
-}
-
-fn covers(row: &Row, client: &str, user: Option<&str>, name: &TopicName) -> bool
+// Whether the levels match. It stands alone: what is asked of each row of a long list stays small.
+#[inline(never)]
+fn levels_cover(row: &Row, client: &str, user: Option<&str>, name: &TopicName) -> bool
     ensures { result ≡ covers client.now (option_copied user.entry) name.now (row_view row.now) }
 {
     let levels = RowLevels {
@@ -79,10 +57,16 @@ fn covers(row: &Row, client: &str, user: Option<&str>, name: &TopicName) -> bool
     };
     let filter = row.filter.text();
     let name = name.text();
-    if starts_apart(filter.as_bytes(), name.as_bytes()) {
+    dollar_fits(filter, name) && levels_match(&levels, filter, name)
+}
+
+fn covers(row: &Row, client: &str, user: Option<&str>, name: &TopicName) -> bool
+    ensures { result ≡ covers client.now (option_copied user.entry) name.now (row_view row.now) }
+{
+    if starts_apart(row.filter.text().as_bytes(), name.text().as_bytes()) {
         return false;
     }
-    dollar_fits(filter, name) && levels_match(&levels, filter, name)
+    levels_cover(row, client, user, name)
 }
 
 /// Whether a row of this owner is for clients of this user name, or without one.

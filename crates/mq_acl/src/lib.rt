@@ -15,6 +15,7 @@ mod row;
 mod rows_by_access;
 mod rows_by_owner;
 mod rules;
+mod starts;
 mod words;
 
 pub use access::{Access, Direction, grants, is_deny};

@@ -1,11 +1,13 @@
 //! The sessions of the clients, of those that are connected and of those that are away.
 //!
 //! ```text
-//!            connect               disconnect, with a session expiry
-//! nothing ────────────▶ connected ◀─────────────────────────────────▶ away: copies wait
-//!    ▲                      │               connect                         │
-//!    └──────────────────────┴───────────────────────────────────────────────┘
-//!            disconnect without one                 its time is over
+//!             connect               disconnect, with a session expiry
+//! nothing  ------------->  connected  ---------------------->  away: copies wait
+//!    ^                      |     ^            connect               |       |
+//!    |  disconnect without  |     +----------------------------------+       |
+//!    +----------------------+                                                |
+//!    |                            its time is over                           |
+//!    +-----------------------------------------------------------------------+
 //! ```
 ghost use Rattle.std.specs.Prelude.{◌≡◌, [], length, not, is_some, false, true, OnOk, OnErr, IfOk};
 ghost use Rattle.std.specs.Prelude.{IfSome, IfNone, map, string_bytes};

@@ -18,8 +18,8 @@ pub enum ThroughFault {
     Rule(u64),
     /// By the rule on this line some topic gets no new name, since that would have too many bytes or levels, or none.
     LongName(u64),
-    /// A `pattern` line has the client id as a level, and each text that could stand for all other client ids is named
-    /// by a list or the plan.
+    /// A `pattern` line has the client id as a level, and each of the 290 texts that are tried for all other client ids
+    /// is named by a list or the plan.
     NoClient,
     /// The steps don't suffice.
     GaveUp,

@@ -76,8 +76,8 @@ fn changes(alloc: Global, comparison: &Comparison) -> Result<Vec<Renamed>, Throu
 /// without a new name isn't compared. Of what the same lines decide, in the lists and in the plan, one topic is shown,
 /// and one more where topics with `$` in front are among others; of clients that differ in their ids alone, one.
 ///
-/// So many steps are given to each comparison of the topics of one rule for one client id. Where they don't suffice the
-/// comparison is given up, so that an answer is always the whole one.
+/// So many steps are given to each comparison of two lists: one is made for each rule and client id, and one more by the
+/// first rule. Where they don't suffice the comparison is given up, so that an answer is always the whole one.
 pub fn compare_through(
     alloc: Global,
     plan: &Plan,

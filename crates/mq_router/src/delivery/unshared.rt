@@ -55,9 +55,10 @@ pub(crate) fn unshared_copies(
         copies: Vec::with_capacity(alloc, most)?,
         queued: Vec::new(alloc),
     };
+    let mut known = None;
     for chunk in matches.chunk_by(|a, b| a.client == b.client) {
         let client = chunk[0].client;
-        let fate = view.fate(client, outgoing.message.topic, limit);
+        let fate = view.fate(client, outgoing.message.topic, limit, &mut known);
         made.add(alloc, fate, client, chunk, outgoing)?;
     }
     Ok(made)

@@ -41,6 +41,7 @@ loop-chunk-preserved c =
           ∙ begins-first c.args.limit A S m deadline l c.fate-fate.result c.fate-fate.ensures.sent
           c.fate-fate.ensures.waits (map queue_item_of c.loop-chunk.made.queued.items) left all first.1
           ∙ held.queued;
+      known = c.fate-fate.ensures.known;
     }
 
 pub loop-chunk-init : goal.loop-chunk-init
@@ -62,4 +63,5 @@ loop-chunk-init c =
       queued = ap (λ l. map queue_item_of l ++ queue_items_by c.args.limit A S m deadline left)
           none_queued
           ∙ ap (λ ms. queue_items_by c.args.limit A S m deadline (by_client (match_views ms))) rest;
+      known = tt;
     }

@@ -6,6 +6,7 @@ use Rattle.mq_sessions.specs.Views.{queue_item_of}
 use Rattle.mq_router.specs.delivery.Copies.{copies_by, queue_items_by}
 use Rattle.mq_subscriptions.specs.Matches.{match_views, AreByClient}
 use Rattle.mq_router.specs.delivery.Copies.{by_client}
+use Rattle.mq_router.specs.delivery.Known.{IsKnown}
 use Rattle.mq_router.proofs.delivery.unshared.unshared_copies.Given as goal
 
 abbrev pub invariant-loop-chunk : goal.invariant-loop-chunk
@@ -21,4 +22,5 @@ invariant-loop-chunk l = record {
       ≡ queue_items_by l.limit l.view.access.now l.view.sessions.now
       (message_of l.outgoing.message) l.outgoing.message.deadline
       (by_client (match_views l.fn.matches));
+  known : IsKnown l.view.access.now l.outgoing.message.topic.now l.known;
 }
