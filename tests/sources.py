@@ -36,7 +36,7 @@ MADE_OF = {
     "sessions: Sessions, subscriptions: Subscriptions, retained: Retained",
     "Limits": "retained: Option<u32>, queued: u32",
     "Clock": "moment: u64",
-    "Acl": "rules: Rules, by_access: RowsByAccess, order: Snapshot<Vec<Row>>",
+    "Acl": "rules: Rules, by_access: RowsByAccess, asks_client: bool, order: Snapshot<Vec<Row>>",
     "Rules": "Own, Mosquitto",
     "Sessions": "by_id: BTreeMap<RcStr, Session>, ends: Ends",
     "Ends": "heap: BinaryHeap<(Reverse<u64>, RcStr)>",
