@@ -123,28 +123,28 @@ $share/g/plant/hall-1/+  $share/g/site/a/hall-1/+/+
 site/x                   (none)                      plan:8  none site/#
 """
 FAULTS = (
-    ("plant/+a -> site/+b", "1: the left side has no +b"),
+    ("plant/+a -> site/+b", "1: FROM has no +b"),
     ("# plant moves\nplant/+/+ -> site/+",
-     "2: 2 + on the left and 1 on the right: name them, as in +hall"),
-    ("a/+ -> x/#", "1: the left side has no #"),
-    ("+a/+ -> x/+", "1: 1 + on the left and 1 on the right: name them, as in +hall"),
-    ("v1/# -> #", "1: the right side must begin with a level of its own"),
+     "2: FROM has 2 + and TO has 1: name them, as in +hall"),
+    ("a/+ -> x/#", "1: FROM has no #"),
+    ("+a/+ -> x/+", "1: FROM has 1 + and TO has 1: name them, as in +hall"),
+    ("v1/# -> #", "1: TO must begin with a level of its own"),
     ("\n\r\nplant/x ->",
-     "3: the right side is missing; for topics that go away write: none FROM"),
+     "3: TO is missing; for topics that go away write: none FROM"),
     ("-> b", "1: expected FROM -> TO, keep FROM or none FROM"),
     ("keep", "1: expected FROM -> TO, keep FROM or none FROM"),
     ("a->b", "1: expected FROM -> TO, keep FROM or none FROM"),
-    (" keep a/#/b", '1: the left side has a level "#": it can\'t be a level of a topic filter '
+    (" keep a/#/b", '1: FROM has a level "#": it can\'t be a level of a topic filter '
                     'there'),
-    ("a\"\t+ -> b", '1: the left side has a level "a\\"\\t+": it can\'t be a level of a topic '
+    ("a\"\t+ -> b", '1: FROM has a level "a\\"\\t+": it can\'t be a level of a topic '
                     'filter there'),
-    ("none +a b", '1: the left side has a level "+a b": a name has letters, digits, - and _'),
-    ("a -> %c/b", '1: the right side has a level "%c": a plan has no %c and %u'),
-    ("+a/+a -> x/+a", "1: +a stands more than once on the left"),
+    ("none +a b", '1: FROM has a level "+a b": a name has letters, digits, - and _'),
+    ("a -> %c/b", '1: TO has a level "%c": a plan has no %c and %u'),
+    ("+a/+a -> x/+a", "1: +a stands more than once in FROM"),
     (f"a/{'x' * 301} -> b",
-     "1: the left side has more than 200 levels, or a level of more than 300 bytes"),
+     "1: FROM has more than 200 levels, or a level of more than 300 bytes"),
     ("a -> b" + "/" * 200,
-     "1: the right side has more than 200 levels, or a level of more than 300 bytes"))
+     "1: TO has more than 200 levels, or a level of more than 300 bytes"))
 NO_FAULTS = ("", "# -> site/#", "#\t->  a/#", "#a -> +", " keep -> b\r", "a b -> c d",
              "a -> b -> c", "keep +/#", "none #", "+x/+y/# -> a/+y/+y", "a -> /b", "$a/# -> b/#")
 LIST_FAULTS = (
@@ -245,7 +245,7 @@ class Reading(Case):
         self.write("bad", "plant/+a -> site/+b\n")
         self.write("latin", "a")
         (self.folder / "latin").write_bytes(b"a -> b\n\xff\n")
-        self.refused(": bad:1: the left side has no +b\n", "name", "bad", "a")
+        self.refused(": bad:1: FROM has no +b\n", "name", "bad", "a")
         self.refused(": latin:2: not UTF-8\n", "check", "latin")
         self.refused(": nowhere: No such file or directory\n", "check", "nowhere")
         self.refused(': "a/#/b" is neither a topic nor a filter\n', "name", "plan", "a/#/b")

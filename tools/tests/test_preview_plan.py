@@ -158,7 +158,7 @@ class Renamed(Case):
 
     def test_faults(self):
         self.write("plan", "plant/+hall/energy -> site/+halle/energy\n")
-        self.refused("plan:1: the left side has no +halle\n", *self.WORDS)
+        self.refused("plan:1: FROM has no +halle\n", *self.WORDS)
         self.write("plan", PLAN)
         said = self.acl("compare", "--rules=mosquitto", "--plan=plan", "old.acl", "new.acl").stderr
         self.refused(said, *self.WORDS[:-1], "mosquitto")

@@ -4,8 +4,8 @@ use std::alloc::{AllocError, Global};
 
 fn side_name(side: Side) -> &'static str {
     match side {
-        Side::Left => "left",
-        Side::Right => "right",
+        Side::Left => "FROM",
+        Side::Right => "TO",
     }
 }
 
@@ -25,8 +25,8 @@ fn level_in(line: &str, side: Side, place: usize) -> &str {
 
 fn missing(side: Side) -> &'static str {
     match side {
-        Side::Left => "the left side is missing",
-        Side::Right => "the right side is missing; for topics that go away write: none FROM",
+        Side::Left => "FROM is missing",
+        Side::Right => "TO is missing; for topics that go away write: none FROM",
     }
 }
 
@@ -40,7 +40,7 @@ fn level_words(
 ) -> Result<String, AllocError> {
     let name = side_name(side);
     let level = level_in(line, side, place);
-    format!(in alloc; "the {name} side has a level {level:?}: {what}")
+    format!(in alloc; "{name} has a level {level:?}: {what}")
 }
 
 // What is wrong with both sides together.
@@ -48,19 +48,16 @@ fn pair_words(alloc: Global, line: &str, kind: PlanKind) -> Result<String, Alloc
     match kind {
         PlanKind::Twice { level } => {
             let level = level_in(line, Side::Left, level);
-            format!(in alloc; "{level} stands more than once on the left")
+            format!(in alloc; "{level} stands more than once in FROM")
         }
         PlanKind::Unnamed { left, right } => format!(in alloc;
-            "{left} + on the left and {right} on the right: name them, as in +hall"
+            "FROM has {left} + and TO has {right}: name them, as in +hall"
         ),
         PlanKind::Unbound { level } => {
             let level = level_in(line, Side::Right, level);
-            format!(in alloc; "the left side has no {level}")
+            format!(in alloc; "FROM has no {level}")
         }
-        PlanKind::Front => String::from_str(
-            alloc,
-            "the right side must begin with a level of its own",
-        ),
+        PlanKind::Front => String::from_str(alloc, "TO must begin with a level of its own"),
         _ => String::from_str(alloc, "out of memory"),
     }
 }
@@ -72,9 +69,7 @@ pub fn plan_fault_words(alloc: Global, line: &str, kind: PlanKind) -> Result<Str
         PlanKind::Missing { side } => String::from_str(alloc, missing(side)),
         PlanKind::Long { side } => {
             let name = side_name(side);
-            format!(in alloc;
-                "the {name} side has more than 200 levels, or a level of more than 300 bytes"
-            )
+            format!(in alloc; "{name} has more than 200 levels, or a level of more than 300 bytes")
         }
         PlanKind::Capture { side, level } => {
             let what = "a name has letters, digits, - and _";

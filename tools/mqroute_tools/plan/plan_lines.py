@@ -31,7 +31,7 @@ def rule_of(number: int, line: str) -> Rule | None:
     word, rest = split_word(text)
     if word not in ("keep", "none") or not rest:
         raise LineFault(EXPECTED)
-    side = side_of("left", rest)
+    side = side_of("FROM", rest)
     refuse_twice(side)
     named = numbered(side)
     return Rule(number, text, named, named if word == "keep" else None)
@@ -49,15 +49,15 @@ def split_word(text: str) -> tuple[str, str]:
 
 def renamed(left_text: str, right_text: str) -> tuple[Side, Side]:
     if not right_text:
-        raise LineFault("the right side is missing; for topics that go away write: none FROM")
-    left, right = side_of("left", left_text), side_of("right", right_text)
+        raise LineFault("TO is missing; for topics that go away write: none FROM")
+    left, right = side_of("FROM", left_text), side_of("TO", right_text)
     refuse_twice(left)
     refuse_unnamed(left, right)
     for item in right:
         if (item == HASH or is_named(item)) and item not in left:
-            raise LineFault(f"the left side has no {text_of_item(item)}")
+            raise LineFault(f"FROM has no {text_of_item(item)}")
     if isinstance(right[0], Capture) or right[0] == HASH:
-        raise LineFault("the right side must begin with a level of its own")
+        raise LineFault("TO must begin with a level of its own")
     return numbered(left), numbered(right)
 
 
@@ -65,14 +65,14 @@ def side_of(which: str, text: str) -> Side:
     """The levels of a side; each `+` without a name is the same capture."""
     parts = text.split("/")
     if not text:
-        raise LineFault(f"the {which} side is missing")
+        raise LineFault(f"{which} is missing")
     if len(parts) > MOST_LEVELS or any(len(part.encode()) > LONGEST for part in parts):
-        raise LineFault(f"the {which} side has more than {MOST_LEVELS} levels, or a level of more "
-                        f"than {LONGEST} bytes")
+        raise LineFault(f"{which} has more than {MOST_LEVELS} levels, or a level of more than "
+                        f"{LONGEST} bytes")
     for place, level in enumerate(parts):
         what = level_fault(level, place == len(parts) - 1)
         if what:
-            raise LineFault(f"the {which} side has a level {quoted(level)}: {what}")
+            raise LineFault(f"{which} has a level {quoted(level)}: {what}")
     return tuple(Capture(part[1:]) if part.startswith(PLUS) else part for part in parts)
 
 
@@ -96,7 +96,7 @@ def text_of_item(item: Item) -> str:
 def refuse_twice(left: Side) -> None:
     for item in left:
         if is_named(item) and left.count(item) > 1:
-            raise LineFault(f"{text_of_item(item)} stands more than once on the left")
+            raise LineFault(f"{text_of_item(item)} stands more than once in FROM")
 
 
 def refuse_unnamed(left: Side, right: Side) -> None:
@@ -104,8 +104,7 @@ def refuse_unnamed(left: Side, right: Side) -> None:
     counts = [side.count(Capture("")) for side in (left, right)]
     has_name = any(is_named(item) for item in left + right)
     if counts[1] and (counts[0] != counts[1] or has_name):
-        raise LineFault(f"{counts[0]} + on the left and {counts[1]} on the right: name them, as in "
-                        "+hall")
+        raise LineFault(f"FROM has {counts[0]} + and TO has {counts[1]}: name them, as in +hall")
 
 
 def numbered(side: Side) -> Side:
