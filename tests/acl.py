@@ -66,7 +66,9 @@ client screen, no user name, topic mill/energy/east
 may read: current.acl:4  topic read mill/energy/#
 may not write: no line allows it
 """),
-    (["lint", "current.acl"], 0, ""),
+    (["lint", "current.acl"], 0,
+     "current.acl: nothing to remark: by mqroute's own rules no line is faulty or odd, repeats "
+     "another, denies nothing or is needless, for any client id and user name a broker can have\n"),
     (["lint", "proposed.acl"], 1,
      "proposed.acl:15: a pattern line without %c and %u applies to every client\n"
      "    pattern read mill/notes\n"),
@@ -257,9 +259,13 @@ def faults_of_several(folder):
     for name in ("a.acl", "b.acl"):
         pathlib.Path(folder, name).write_text(files[name])
     missing = "-:1: the topic is missing\n    topic\n"
-    cases = [(["b.acl"], 0, ""), (["b.acl", "b.acl"], 0, ""),
+    none = ("b.acl: nothing to remark: by mqroute's own rules no line is faulty or odd, repeats "
+            "another, denies nothing or is needless, for any client id and user name a broker can "
+            "have\n")
+    cases = [(["b.acl"], 0, none), (["b.acl", "b.acl"], 0, none + none),
              (["a.acl", "-"], 1, REMARKS + missing), (["-", "a.acl"], 1, missing + REMARKS),
-             (["b.acl", "a.acl", "b.acl"], 1, REMARKS), (["a.acl", "b.acl"], 1, REMARKS)]
+             (["b.acl", "a.acl", "b.acl"], 1, none + REMARKS + none),
+             (["a.acl", "b.acl"], 1, REMARKS + none)]
     for names, status, wanted in cases:
         done = run(["lint", *names], folder, files["-"])
         same = "b.acl: mosquitto 2.0 allows the same\n" * names.count("b.acl")

@@ -124,6 +124,7 @@ The remarks on each file stand in the order of the files, each with the text of
 its line. If one of them can't be read, nothing is written. A needless line is
 one without which the list allows the same. A line that denies nothing that a
 line grants may be there as a guard: alone, such lines don't make the status 1.
+If there is nothing to remark on a file, it says so.
 
 A step is a look at one line for one question, or as much work as that takes.
 When the steps are spent, there is no answer. Each file has as many.

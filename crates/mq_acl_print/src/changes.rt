@@ -6,7 +6,7 @@ use crate::list::{Lines, ListText, lines_of};
 use crate::placeholders::shown_topic;
 use crate::published::{ScriptTraffic, add_counts, add_pattern, publishes_text};
 use crate::who::group_text;
-use crate::words::{access_word, rows_word, way_word};
+use crate::words::{access_word, rows_word, rules_owner, way_word};
 use mq_acl::{Row, Rules};
 use mq_differences::{Difference, Group, Way, gather};
 use mq_topic::LevelText;
@@ -159,10 +159,7 @@ fn add_none(text: &mut String, only: Option<Way>, old: &str, new: &str) -> Resul
 
 // That the lists don't differ, or not in the way that is asked about.
 fn none_text(alloc: Global, scope: Scope<'_>, old: &str, new: &str) -> Result<String, AllocError> {
-    let whose = match scope.rules {
-        Rules::Own => "mqroute's own",
-        Rules::Mosquitto => "mosquitto's",
-    };
+    let whose = rules_owner(scope.rules);
     let which = if scope.is_limited {
         " without /, + and # that"
     } else {

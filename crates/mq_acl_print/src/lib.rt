@@ -37,4 +37,4 @@ pub use published::ScriptTraffic;
 pub use subscriptions::subscriptions_text;
 pub use topic::{AskedFilter, topic_text};
 pub use who::{group_text, who_text};
-pub use words::{access_word, rows_word, way_word};
+pub use words::{access_word, rows_word, rules_owner, way_word};

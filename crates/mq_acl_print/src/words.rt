@@ -1,5 +1,5 @@
 //! Words for what is asked about, in texts and in JSON.
-use mq_acl::Direction;
+use mq_acl::{Direction, Rules};
 use mq_differences::Way;
 
 /// Whether it is read or written.
@@ -15,6 +15,14 @@ pub fn way_word(way: Way) -> &'static str {
     match way {
         Way::Gained => "gained",
         Way::Lost => "lost",
+    }
+}
+
+/// Whose the rules are.
+pub fn rules_owner(rules: Rules) -> &'static str {
+    match rules {
+        Rules::Own => "mqroute's own",
+        Rules::Mosquitto => "mosquitto's",
     }
 }
 

@@ -8,17 +8,17 @@ ghost use Rattle.mq_acl_answers.specs.Failures.{IsLintFailure};
 ghost use Rattle.mq_acl_answers.specs.Lint.{AreRemarks, has_fault, has_needless, is_fault, matters};
 ghost use Rattle.mq_acl_answers.specs.Lint.{IsLinted};
 
-use crate::commands::remarks::{add_empty, add_remarks};
+use crate::commands::remarks::{add_empty, add_none, add_remarks};
 use crate::failure::Failure;
 use crate::list::rows_in;
-use crate::notes::add_limit;
+use crate::notes::{add_limit, is_limited};
 use crate::otherwise::add_whether_otherwise;
 use crate::outcome::Outcome;
 use mq_acl::{Row, Rules};
 use mq_acl_args::Options;
 use mq_acl_print::ListText;
 use mq_lint::{NeedlessFault, Remark, RemarkKind, needless, remarks};
-use std::alloc::Global;
+use std::alloc::{AllocError, Global};
 
 /// The remarks on a list.
 pub struct Remarks {
@@ -150,6 +150,24 @@ fn outcome_of(remarks: &Remarks) -> Outcome
     }
 }
 
+// Adds what is said of the list as a whole: that it has no row, or that there is no remark.
+fn add_whole(
+    alloc: Global,
+    answer: &mut String,
+    file: &str,
+    found: &Remarks,
+    options: Options,
+) -> Result<(), AllocError> {
+    if found.is_empty {
+        return add_empty(alloc, answer, file, options.json);
+    }
+    if options.json || !found.odd.is_empty() || !found.needless.is_empty() {
+        return Ok(());
+    }
+    let limited = is_limited(options.rules, &found.rows);
+    add_none(answer, file, options.rules, limited)
+}
+
 /// Adds to an answer what is odd or needless in the list, if so many steps suffice to know it, and
 /// notes of whom it isn't known, and by our own rules where mosquitto decides otherwise or that it
 /// allows the same.
@@ -171,8 +189,6 @@ pub fn add_lint<'a>(
     }
     let outcome = outcome_of(&found);
     add_remarks(alloc, answer, list, &found.odd, &found.needless, options)?;
-    if found.is_empty {
-        add_empty(alloc, answer, list.file, options.json)?;
-    }
+    add_whole(alloc, answer, list.file, &found, options)?;
     Ok(outcome)
 }

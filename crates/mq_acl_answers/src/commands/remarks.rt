@@ -1,7 +1,7 @@
 //! Remarks on lines, in words and as JSON.
 use mq_acl::Rules;
 use mq_acl_args::Options;
-use mq_acl_print::{Datum, Lines, ListText, add_object, fault_words, lines_of};
+use mq_acl_print::{Datum, Lines, ListText, add_object, fault_words, lines_of, rules_owner};
 use mq_lint::{Remark, RemarkKind};
 use std::alloc::{AllocError, Global};
 
@@ -19,6 +19,9 @@ const DENIES_NOTHING: &str = "denies nothing that a line grants";
 const NEEDLESS: &str = "needless: without it the list allows the same";
 
 const EMPTY: &str = "no topic or pattern line: nothing is allowed";
+
+const NOTHING: &str = "no line is faulty or odd, repeats another, denies nothing or is needless, \
+                       for any client id and user name";
 
 fn kind_name(kind: RemarkKind) -> &'static str {
     match kind {
@@ -146,6 +149,26 @@ pub(crate) fn add_remarks(
     };
     add_all(alloc, text, list, odd, options)?;
     add_all(alloc, text, list, needless, options)
+}
+
+/// Adds that there is no remark on the list in this file, by whose rules, and whether client ids and user
+/// names with `/`, `+` or `#` are left out.
+pub(crate) fn add_none(
+    text: &mut String,
+    file: &str,
+    rules: Rules,
+    is_limited: bool,
+) -> Result<(), AllocError> {
+    let whose = rules_owner(rules);
+    let which = if is_limited {
+        " without /, + and # that"
+    } else {
+        ""
+    };
+    writeln!(
+        text,
+        "{file}: nothing to remark: by {whose} rules {NOTHING}{which} a broker can have"
+    )
 }
 
 /// Adds that the list in this file has no row, and what that means.
