@@ -2,7 +2,7 @@
 use crate::failure::Failure;
 use crate::list::rows_in;
 use mq_acl_args::{Client, Options};
-use mq_acl_print::{AskedClient, ListText, unnamed_text};
+use mq_acl_print::{AskedClient, ListText, name_text};
 use std::alloc::Global;
 
 /// The client, as it is shown.
@@ -13,16 +13,17 @@ pub(crate) fn asked_client(client: Client<'_>) -> AskedClient<'_> {
     }
 }
 
-/// That no line of the list is for the user, if it is so; nothing where the answer is JSON.
-pub(crate) fn unnamed_in<'a>(
+/// A line about the client's name, if another may be meant by what the list has; nothing where the
+/// answer is JSON.
+pub(crate) fn name_note<'a>(
     alloc: Global,
     list: ListText<'a, '_>,
-    user: Option<&str>,
+    client: AskedClient<'_>,
     options: Options,
 ) -> Result<String, Failure<'a>> {
-    if options.json || user.is_none() {
+    if options.json {
         return Ok(String::new(alloc));
     }
     let rows = rows_in(alloc, options.rules, list)?;
-    Ok(unnamed_text(alloc, &rows, user)?)
+    Ok(name_text(alloc, &rows, client)?)
 }

@@ -110,6 +110,8 @@ pub(crate) const WHY_ABOUT: &str =
 
 pub(crate) const WHY_AFTER_HELP: &str = "\
 Both are shown. With --may read or --may write the status is that of one of them.
+A line says so where the list has no line for the user name, or where there is
+none and CLIENT is a user name that the list has lines for.
 
 With --json one object is about reading and one about writing, each with
   access   read or write

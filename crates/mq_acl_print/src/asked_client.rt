@@ -23,17 +23,10 @@ fn is_named(rows: &[Row], user: &str) -> bool {
     rows.iter().any(|row| name_of(row) == Some(user))
 }
 
-fn is_like(row: &Row, user: &str) -> bool {
-    match name_of(row) {
-        Some(name) => name.eq_ignore_ascii_case(user),
-        None => false,
-    }
-}
-
 // The first user name that differs in the case of letters alone.
 fn like<'r>(rows: &'r [Row], user: &str) -> Option<&'r str> {
-    let row = rows.iter().find(|row| is_like(row, user))?;
-    name_of(row)
+    let mut names = rows.iter().filter_map(name_of);
+    names.find(|name| name.eq_ignore_ascii_case(user))
 }
 
 /// Adds the client.
@@ -48,19 +41,33 @@ pub(crate) fn add_client(text: &mut String, client: AskedClient<'_>) -> Result<(
     }
 }
 
-/// That none of the rows is for the user, if it is so: with a user name that differs in the case of letters alone.
-pub fn unnamed_text(alloc: Global, rows: &[Row], user: Option<&str>) -> Result<String, AllocError> {
-    let mut text = String::new(alloc);
-    let Some(user) = user else {
-        return Ok(text);
-    };
+fn add_unnamed(text: &mut String, rows: &[Row], user: &str) -> Result<(), AllocError> {
     if is_named(rows, user) {
-        return Ok(text);
+        return Ok(());
     }
     write!(text, "no line names user {user}")?;
     if let Some(name) = like(rows, user) {
         write!(text, "; {name}?")?;
     }
-    text.push('\n')?;
+    text.push('\n')
+}
+
+/// A line about the client's name, where another may be meant. None of the rows is for its user name:
+/// with one that differs in the case of letters alone. Or it has none, and its client id is a user
+/// name that rows are for.
+pub fn name_text(
+    alloc: Global,
+    rows: &[Row],
+    client: AskedClient<'_>,
+) -> Result<String, AllocError> {
+    let mut text = String::new(alloc);
+    match (client.user, client.id) {
+        (Some(user), _) => add_unnamed(&mut text, rows, user)?,
+        (None, Some(id)) if is_named(rows, id) => writeln!(
+            text,
+            "{id} is a user name of the list: --user {id} asks about its clients"
+        )?,
+        _ => {}
+    }
     Ok(text)
 }

@@ -95,14 +95,14 @@ pub struct AskedTopic<'a> {
     pub client: AskedClient<'a>,
     /// The topic.
     pub topic: &'a str,
-    /// That no line is for the client's user name, if it is so.
-    pub unnamed: &'a str,
+    /// A line about the client's name, if another may be meant.
+    pub note: &'a str,
 }
 
 fn add_asked(text: &mut String, asked: AskedTopic<'_>) -> Result<(), AllocError> {
     add_client(text, asked.client)?;
-    let AskedTopic { topic, unnamed, .. } = asked;
-    write!(text, ", topic {topic}\n{unnamed}")
+    let AskedTopic { topic, note, .. } = asked;
+    write!(text, ", topic {topic}\n{note}")
 }
 
 /// What is asked, and the answers for reading and writing, each with the line that decides it; as

@@ -23,10 +23,10 @@ mod who;
 mod words;
 
 pub use any_client::any_text;
-pub use asked_client::{AskedClient, unnamed_text};
+pub use asked_client::{AskedClient, name_text};
 pub use change_rows::{ChangeRow, change_table};
 pub use changes::{ComparedTraffic, Scope, changes_text};
-pub use deciding::{Side, decision, line_if};
+pub use deciding::{Side, decision};
 pub use explanation::{AskedTopic, explanation_text};
 pub use faults::fault_words;
 pub use json::{Datum, add_object};

@@ -4,21 +4,20 @@ use crate::json::{Datum, add_object};
 use mq_topic::{LevelText, TopicName};
 use std::alloc::{AllocError, Global};
 
-fn topic_line(
+fn add_json(
     alloc: Global,
+    text: &mut String,
     subscription: &str,
     topic: Option<&str>,
-) -> Result<String, AllocError> {
-    let mut line = String::new(alloc);
+) -> Result<(), AllocError> {
     add_object(
         alloc,
-        &mut line,
+        text,
         &[
             ("filter", Datum::Text(subscription)),
             ("topic", Datum::TextIf(topic)),
         ],
-    )?;
-    Ok(line)
+    )
 }
 
 /// What is asked of a list: whether this client's subscription can be sent something.
@@ -28,23 +27,21 @@ pub struct AskedFilter<'a> {
     pub client: AskedClient<'a>,
     /// The subscription: a topic filter, or `$share/NAME/FILTER`.
     pub subscription: &'a str,
-    /// That no line is for the client's user name, if it is so.
-    pub unnamed: &'a str,
+    /// A line about the client's name, if another may be meant.
+    pub note: &'a str,
 }
 
-fn topic_words(
-    alloc: Global,
+fn add_words(
+    text: &mut String,
     asked: AskedFilter<'_>,
     topic: Option<&str>,
-) -> Result<String, AllocError> {
-    let mut text = String::new(alloc);
-    add_client(&mut text, asked.client)?;
+) -> Result<(), AllocError> {
+    add_client(text, asked.client)?;
     let subscription = asked.subscription;
     write!(text, ": {subscription} can be sent ")?;
     text.push_str(topic.unwrap_or("nothing"))?;
-    let unnamed = asked.unnamed;
-    write!(text, "\n{unnamed}")?;
-    Ok(text)
+    let note = asked.note;
+    write!(text, "\n{note}")
 }
 
 /// A topic that the subscription can be sent, or that there is none.
@@ -58,8 +55,11 @@ pub fn topic_text(
         Some(topic) => Some(topic.text()),
         None => None,
     };
+    let mut text = String::new(alloc);
     if json {
-        return topic_line(alloc, asked.subscription, topic);
+        add_json(alloc, &mut text, asked.subscription, topic)?;
+    } else {
+        add_words(&mut text, asked, topic)?;
     }
-    topic_words(alloc, asked, topic)
+    Ok(text)
 }

@@ -11,7 +11,7 @@ ghost use Rattle.mq_acl_answers.specs.Failures.{IsListFailure, IsWordFailure};
 ghost use Rattle.mq_acl_answers.specs.Notes.{IsQuiet};
 ghost use Rattle.mq_acl_answers.specs.Statuses.{failure_status};
 
-use crate::asked::{asked_client, unnamed_in};
+use crate::asked::{asked_client, name_note};
 use crate::commands::short_topic::shown_topic;
 use crate::failure::Failure;
 use crate::list::rows_in;
@@ -150,11 +150,11 @@ pub fn show_reach<'a, W: Write>(
     let found = find_topic(alloc, options.rules, list, client, subscription)?;
     add_otherwise(alloc, notes, list, options)?;
     let outcome = outcome_of(&found);
-    let unnamed = unnamed_in(alloc, list, client.user, options)?;
+    let note = name_note(alloc, list, asked_client(client), options)?;
     let asked = AskedFilter {
         client: asked_client(client),
         subscription,
-        unnamed: unnamed.as_str(),
+        note: note.as_str(),
     };
     let text = topic_text(alloc, asked, &found, options.json);
     print_outcome(out, text, outcome)

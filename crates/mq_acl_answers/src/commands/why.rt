@@ -9,7 +9,7 @@ ghost use Rattle.mq_acl_answers.specs.Failures.{IsListFailure, IsTopicFailure};
 ghost use Rattle.mq_acl_answers.specs.Notes.{IsPlain, IsQuiet};
 ghost use Rattle.mq_acl_answers.specs.Statuses.{failure_status};
 
-use crate::asked::{asked_client, unnamed_in};
+use crate::asked::{asked_client, name_note};
 use crate::cases::{Case, add_case};
 use crate::failure::Failure;
 use crate::list::rows_in;
@@ -201,11 +201,11 @@ pub fn show_why<'a, W: Write>(
     let explanation = explain(alloc, options.rules, list, client, topic)?;
     add_beside(alloc, notes, list, (client, topic), explanation, options)?;
     let outcome = outcome_of(&explanation, may);
-    let unnamed = unnamed_in(alloc, list, client.user, options)?;
+    let note = name_note(alloc, list, asked_client(client), options)?;
     let asked = AskedTopic {
         client: asked_client(client),
         topic,
-        unnamed: unnamed.as_str(),
+        note: note.as_str(),
     };
     let Explanation { reading, writing } = explanation;
     let text = explanation_text(alloc, list, asked, reading, writing, options.json);
