@@ -24,18 +24,18 @@ no user name; user plc; other users
     current.acl      no line allows it
     proposed.acl:15  pattern read mill/notes
 no user name
-  may no longer read  mill/energy
+  may no longer read  for example mill/energy
     current.acl:4    topic read mill/energy/#
     proposed.acl     no line allows it
 user plc
-  may now write       mill/<level>/<level>/state
+  may now write       for example mill/<level>/<level>/state
     current.acl      no line allows it
     proposed.acl:10  topic write mill/+/+/state
 3 differences
 """),
     (["compare", "--only", "lost", "current.acl", "proposed.acl"], 1, """\
 no user name
-  may no longer read  mill/energy
+  may no longer read  for example mill/energy
     current.acl:4  topic read mill/energy/#
     proposed.acl   no line allows it
 1 lost

@@ -63,11 +63,13 @@ pub(crate) const COMPARE_ABOUT: &str = "Shows what one list allows and the other
 
 pub(crate) const COMPARE_AFTER_HELP: &str = "\
 Each difference is shown with a topic, and with the line of each list that
-decides it. All are listed: for the clients without a user name, for those of
-each user name that has lines of its own, and for all others, each pair of
-lines that decides. In a topic <level> is any level that no line names and that
-doesn't begin with $, and <$level> any that does. <client id> and <user> are any
-that no line names; at the front of a topic they don't begin with $.
+decides it. The words for example stand before a topic where these lines have
+wildcards, and so may decide about others too. All are listed: for the clients
+without a user name, for those of each user name that has lines of its own, and
+for all others, each pair of lines that decides. In a topic <level> is any level
+that no line names and that doesn't begin with $, and <$level> any that does.
+<client id> and <user> are any that no line names; at the front of a topic they
+don't begin with $.
 
 --only gained shows what the new list allows and the old one doesn't, --only lost
 the opposite, and the status is of these alone.

@@ -48,10 +48,12 @@ fn rule_side<'a>(
         Some(line) => Ok(Side {
             place: format!(in alloc; "{file}:{line}")?,
             words: plan.line(line),
+            is_line: true,
         }),
         None => Ok(Side {
             place: String::from_str(alloc, file)?,
             words: "no line is about it",
+            is_line: false,
         }),
     }
 }

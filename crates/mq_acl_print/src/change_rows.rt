@@ -51,34 +51,26 @@ fn access_words(direction: Direction, way: Way) -> &'static str {
     }
 }
 
-fn widen(widths: &mut Widths, row: &ChangeRow<'_>) {
-    widths.access = widened(widths.access, access_words(row.direction, row.way));
-    for side in &row.sides {
-        widths.place = widened(widths.place, side.place.as_str());
-    }
-    if let Some((file, _)) = &row.publishes {
-        widths.place = widened(widths.place, *file);
-    }
-}
-
 fn widths_of(rows: &[ChangeRow<'_>]) -> Widths {
     let mut widths = Widths {
         access: 0,
         place: 0,
     };
     for row in rows {
-        widen(&mut widths, row);
+        widths.access = widened(widths.access, access_words(row.direction, row.way));
+        for side in &row.sides {
+            widths.place = widened(widths.place, side.place.as_str());
+        }
+        if let Some((file, _)) = &row.publishes {
+            widths.place = widened(widths.place, *file);
+        }
     }
     widths
 }
 
-// The terminal's colour for it: green, or red.
-fn colour_of(way: Way) -> &'static str {
-    match way {
-        Way::Gained => "\u{1b}[32m",
-        Way::Lost => "\u{1b}[31m",
-    }
-}
+const GREEN: &str = "\u{1b}[32m";
+
+const RED: &str = "\u{1b}[31m";
 
 // What ends a colour.
 const PLAIN: &str = "\u{1b}[0m";
@@ -93,21 +85,9 @@ fn add_access(
     if !coloured {
         return add_cell(text, access, width);
     }
-    text.push_str(colour_of(row.way))?;
+    text.push_str(if row.way == Way::Gained { GREEN } else { RED })?;
     add_cell(text, access, width)?;
     text.push_str(PLAIN)
-}
-
-fn add_head(
-    text: &mut String,
-    row: &ChangeRow<'_>,
-    widths: Widths,
-    coloured: bool,
-) -> Result<(), AllocError> {
-    text.push_str("  ")?;
-    add_access(text, row, widths.access, coloured)?;
-    text.push_str(row.topic.as_str())?;
-    text.push('\n')
 }
 
 fn add_below(text: &mut String, place: &str, words: &str, width: usize) -> Result<(), AllocError> {
@@ -123,7 +103,12 @@ fn add_row(
     widths: Widths,
     coloured: bool,
 ) -> Result<(), AllocError> {
-    add_head(text, row, widths, coloured)?;
+    text.push_str("  ")?;
+    add_access(text, row, widths.access, coloured)?;
+    let is_example = row.sides.iter().all(|side| side.may_have_several());
+    text.push_str(if is_example { "for example " } else { "" })?;
+    let topic = row.topic.as_str();
+    writeln!(text, "{topic}")?;
     for side in &row.sides {
         add_below(text, side.place.as_str(), side.words, widths.place)?;
     }

@@ -9,23 +9,26 @@ pub struct Side<'a> {
     pub place: String,
     /// The line, or that none allows it.
     pub words: &'a str,
+    /// Whether it is a line.
+    pub is_line: bool,
 }
 
 // Opaque to callers' proofs: one step, and not one for each field (docs/explanation/gate.md).
 impl Drop for Side<'_> {
     fn drop(self) {
-        let Side { place: _, words: _ } = self;
+        let Side {
+            place: _,
+            words: _,
+            is_line: _,
+        } = self;
     }
 }
 
-/// The line that decides, if one does.
-pub fn line_if<'a>(lines: Lines<'a, 'a, 'a>, reason: Reason) -> Option<Line<'a>> {
-    let number = reason.line()?;
-    Some(Line {
-        file: lines.file,
-        number,
-        text: lines.line(number),
-    })
+impl Side<'_> {
+    // Whether it decides about several topics, or is no line.
+    pub(crate) fn may_have_several(&self) -> bool {
+        !self.is_line || self.words.contains('+') || self.words.contains('#')
+    }
 }
 
 /// What decides, in words.
@@ -39,10 +42,12 @@ pub fn decision<'a>(
         Some(line) => Ok(Side {
             place: format!(in alloc; "{file}:{line}")?,
             words: lines.line(line),
+            is_line: true,
         }),
         None => Ok(Side {
             place: String::from_str(alloc, file)?,
             words: "no line allows it",
+            is_line: false,
         }),
     }
 }

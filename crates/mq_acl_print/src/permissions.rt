@@ -207,6 +207,7 @@ fn add_publishes(
     let side = Side {
         place: String::from_str(alloc, traffic.script.file)?,
         words: words.as_str(),
+        is_line: false,
     };
     add_line(text, widths, "", "", &side)
 }
