@@ -1,6 +1,7 @@
 //! Where mosquitto decides otherwise, in words.
 use mq_acl::Direction;
 use mq_acl_args::Client;
+use mq_acl_print::access_word;
 use mq_differences::Reason;
 use mq_otherwise::{Otherwise, OtherwiseFault};
 use mq_topic::LevelText;
@@ -41,13 +42,6 @@ impl<'a> Case<'a> {
     }
 }
 
-fn verb(direction: Direction) -> &'static str {
-    match direction {
-        Direction::Reading => "read",
-        Direction::Writing => "write",
-    }
-}
-
 fn add_client(notes: &mut String, client: Client<'_>) -> Result<(), AllocError> {
     let id = client.id;
     match client.user {
@@ -57,7 +51,7 @@ fn add_client(notes: &mut String, client: Client<'_>) -> Result<(), AllocError> 
 }
 
 fn add_decision(notes: &mut String, case: &Case<'_>) -> Result<(), AllocError> {
-    let (verb, topic) = (verb(case.direction), case.topic);
+    let (verb, topic) = (access_word(case.direction), case.topic);
     match case.mosquitto {
         Reason::Grant(line) => writeln!(notes, "may {verb} {topic} by line {line}"),
         Reason::Deny(line) => writeln!(notes, "may not {verb} {topic} by line {line}"),

@@ -10,17 +10,12 @@ use std::alloc::AllocError;
 const NAMED: usize = 8;
 
 // Adds the numbers of the lines of `pattern` rows.
-fn add_numbers(notes: &mut String, rows: &[Row]) -> Result<(), AllocError> {
+fn add_pattern_lines(notes: &mut String, rows: &[Row]) -> Result<(), AllocError> {
     let patterns = rows.iter().filter(|row| is_pattern(&row.owner)).take(NAMED);
     for (place, row) in patterns.enumerate() {
         notes.push_str(if place == 0 { "" } else { ", " })?;
         write!(notes, "{}", row.line)?;
     }
-    Ok(())
-}
-
-fn add_pattern_lines(notes: &mut String, rows: &[Row]) -> Result<(), AllocError> {
-    add_numbers(notes, rows)?;
     let count = rows.iter().filter(|row| is_pattern(&row.owner)).count();
     if count > NAMED {
         write!(notes, " and {} more", count - NAMED)?;

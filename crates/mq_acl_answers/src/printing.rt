@@ -21,18 +21,7 @@ pub fn print<'a, W: Write>(out: &mut W, text: &str) -> Result<(), Failure<'a>>
     }
 }
 
-/// Writes all of an answer at once, if there was memory for it.
-pub(crate) fn print_answer<'a, W: Write>(
-    out: &mut W,
-    answer: Result<String, AllocError>,
-) -> Result<(), Failure<'a>>
-    ensures { IfErr result (λ failure. failure_status failure ≡ 3) }
-{
-    let text = answer?;
-    print(out, text.as_str())
-}
-
-/// Writes all of an answer at once too, and gives what it comes to.
+/// Writes all of an answer at once, if there was memory for it, and gives what it comes to.
 pub fn print_outcome<'a, W: Write>(
     out: &mut W,
     answer: Result<String, AllocError>,
@@ -41,6 +30,7 @@ pub fn print_outcome<'a, W: Write>(
     ensures ok { IfOk result (λ shown. shown ≡ outcome) }
     ensures err { IfErr result (λ failure. failure_status failure ≡ 3) }
 {
-    print_answer(out, answer)?;
+    let text = answer?;
+    print(out, text.as_str())?;
     Ok(outcome)
 }

@@ -1,18 +1,9 @@
 //! What changes through a plan, as JSON.
 use crate::compared::Compared;
-use mq_acl_print::{Datum, Line, Lines, access_word, add_object, line_if, way_word};
+use mq_acl_print::{Datum, access_word, add_object, way_word};
 use mq_through::Renamed;
 use mq_topic::LevelText;
 use std::alloc::{AllocError, Global};
-
-fn rule_line<'a>(plan: Lines<'a, 'a, 'a>, rule: Option<u64>) -> Option<Line<'a>> {
-    let number = rule?;
-    Some(Line {
-        file: plan.file,
-        number,
-        text: plan.line(number),
-    })
-}
 
 fn add_one<'a>(
     alloc: Global,
@@ -30,18 +21,15 @@ fn add_one<'a>(
             ("client", Datum::Text(difference.client.as_str())),
             (
                 "new",
-                Datum::LineIf(line_if(compared.new, difference.new_reason)),
+                Datum::LineIf(compared.new.line_if(difference.new_reason.line())),
             ),
             ("new_topic", Datum::Text(renamed.new_topic.text())),
             (
                 "old",
-                Datum::LineIf(line_if(compared.old, difference.old_reason)),
+                Datum::LineIf(compared.old.line_if(difference.old_reason.line())),
             ),
             ("placeholders", Datum::Texts(&difference.placeholders)),
-            (
-                "rule",
-                Datum::LineIf(rule_line(compared.plan, renamed.rule)),
-            ),
+            ("rule", Datum::LineIf(compared.plan.line_if(renamed.rule))),
             ("topic", Datum::Text(difference.topic.text())),
             ("user", Datum::TextIf(difference.class.user())),
         ],

@@ -2,21 +2,11 @@
 use crate::asked_client::{AskedClient, add_client};
 use crate::json::{Datum, add_object};
 use crate::lines::add_line;
-use crate::list::{Line, ListText};
+use crate::list::ListText;
 use crate::placeholders::shown_topic;
 use mq_differences::Difference;
 use mq_topic::LevelText;
 use std::alloc::{AllocError, Global};
-
-// The line that allows it.
-fn line_of<'a>(list: ListText<'a, 'a>, found: &Difference) -> Option<Line<'a>> {
-    let number = found.old_reason.line()?;
-    Some(Line {
-        file: list.file,
-        number,
-        text: list.line(number),
-    })
-}
 
 fn add_json<'a>(
     alloc: Global,
@@ -30,7 +20,7 @@ fn add_json<'a>(
         Some(found) => (
             Some(found.client.as_str()),
             Some(found.topic.text()),
-            line_of(list, found),
+            list.line_if(found.old_reason.line()),
             &found.placeholders,
         ),
         None => (None, None, None, &[]),
@@ -49,21 +39,6 @@ fn add_json<'a>(
     )
 }
 
-fn add_found(
-    alloc: Global,
-    text: &mut String,
-    list: ListText<'_, '_>,
-    found: &Difference,
-) -> Result<(), AllocError> {
-    let topic = shown_topic(alloc, found)?;
-    writeln!(text, "{topic}")?;
-    let Some(line) = found.old_reason.line() else {
-        return Ok(());
-    };
-    text.push_str("    ")?;
-    add_line(text, list, line)
-}
-
 fn add_words(
     alloc: Global,
     text: &mut String,
@@ -74,9 +49,17 @@ fn add_words(
     let (user, wanted) = about;
     add_client(text, AskedClient { id: None, user })?;
     write!(text, ": {wanted} can be sent ")?;
-    match found {
-        Some(found) => add_found(alloc, text, list, found),
-        None => text.push_str("nothing\n"),
+    let Some(found) = found else {
+        return text.push_str("nothing\n");
+    };
+    let topic = shown_topic(alloc, found)?;
+    writeln!(text, "{topic}")?;
+    match found.old_reason.line() {
+        Some(line) => {
+            text.push_str("    ")?;
+            add_line(text, list, line)
+        }
+        None => Ok(()),
     }
 }
 

@@ -1,6 +1,6 @@
 //! Where two lists differ, in words and as JSON.
 use crate::change_rows::{ChangeRow, change_table};
-use crate::deciding::{decision, line_if};
+use crate::deciding::decision;
 use crate::json::{Datum, add_object};
 use crate::list::{Lines, ListText, lines_of};
 use crate::placeholders::shown_topic;
@@ -32,11 +32,6 @@ impl ComparedTraffic<'_> {
         add_pattern(&mut patterns, self.new, difference.new_reason)?;
         Ok(self.script.traffic.matched(&patterns))
     }
-
-    fn words(self, alloc: Global, difference: &Difference) -> Result<String, AllocError> {
-        let publishes = self.publishes(alloc, difference)?;
-        publishes_text(alloc, publishes)
-    }
 }
 
 /// By whose rules lists were compared, and for whom.
@@ -60,10 +55,12 @@ fn publishes_of<'a>(
     scope: Scope<'a>,
     difference: &Difference,
 ) -> Result<Option<(&'a str, String)>, AllocError> {
-    match scope.traffic {
-        Some(traffic) => Ok(Some((traffic.script.file, traffic.words(alloc, difference)?))),
-        None => Ok(None),
-    }
+    let Some(traffic) = scope.traffic else {
+        return Ok(None);
+    };
+    let publishes = traffic.publishes(alloc, difference)?;
+    let words = publishes_text(alloc, publishes)?;
+    Ok(Some((traffic.script.file, words)))
 }
 
 fn change_row<'a>(
@@ -94,8 +91,8 @@ fn add_json<'a>(
     new: Lines<'a, 'a, 'a>,
     difference: &'a Difference,
 ) -> Result<(), AllocError> {
-    let old_line = line_if(old, difference.old_reason);
-    let new_line = line_if(new, difference.new_reason);
+    let old_line = old.line_if(difference.old_reason.line());
+    let new_line = new.line_if(difference.new_reason.line());
     let mut data = vec![in alloc;
         ("access", Datum::Text(access_word(difference.direction))),
         ("change", Datum::Text(way_word(difference.way))),

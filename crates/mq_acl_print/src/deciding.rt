@@ -1,5 +1,5 @@
 //! What decides, as it stands in a list.
-use crate::list::{Line, Lines};
+use crate::list::Lines;
 use mq_differences::Reason;
 use std::alloc::{AllocError, Global};
 

@@ -2,23 +2,9 @@
 use crate::asked_client::{AskedClient, add_client};
 use crate::json::{Datum, add_object};
 use crate::lines::add_line;
-use crate::list::{Line, ListText};
+use crate::list::ListText;
 use mq_differences::{Reason, Verdict};
 use std::alloc::{AllocError, Global};
-
-fn add_grant(
-    text: &mut String,
-    list: ListText<'_, '_>,
-    grant: Option<u64>,
-) -> Result<(), AllocError> {
-    match grant {
-        Some(grant) => {
-            text.push_str("    would be allowed by ")?;
-            add_line(text, list, grant)
-        }
-        None => Ok(()),
-    }
-}
 
 fn add_words(
     text: &mut String,
@@ -36,19 +22,14 @@ fn add_words(
         Reason::Grant(line) => add_line(text, list, line),
         Reason::Deny(line) => {
             add_line(text, list, line)?;
-            add_grant(text, list, verdict.grant)
+            let Some(grant) = verdict.grant else {
+                return Ok(());
+            };
+            text.push_str("    would be allowed by ")?;
+            add_line(text, list, grant)
         }
         Reason::NoGrant => text.push_str("no line allows it\n"),
     }
-}
-
-fn line_if<'a>(list: ListText<'a, 'a>, number: Option<u64>) -> Option<Line<'a>> {
-    let number = number?;
-    Some(Line {
-        file: list.file,
-        number,
-        text: list.line(number),
-    })
 }
 
 fn add_json<'a>(
@@ -68,24 +49,10 @@ fn add_json<'a>(
         &[
             ("access", Datum::Text(verb)),
             ("allowed", Datum::Flag(verdict.is_allowed())),
-            ("deny", Datum::LineIf(line_if(list, deny))),
-            ("grant", Datum::LineIf(line_if(list, verdict.grant))),
+            ("deny", Datum::LineIf(list.line_if(deny))),
+            ("grant", Datum::LineIf(list.line_if(verdict.grant))),
         ],
     )
-}
-
-fn add_verdict(
-    alloc: Global,
-    text: &mut String,
-    list: ListText<'_, '_>,
-    verb: &str,
-    verdict: Verdict,
-    json: bool,
-) -> Result<(), AllocError> {
-    if json {
-        return add_json(alloc, text, list, verb, verdict);
-    }
-    add_words(text, list, verb, verdict)
 }
 
 /// What is asked of a list: whether this client may read and write this topic.
@@ -116,10 +83,13 @@ pub fn explanation_text(
     json: bool,
 ) -> Result<String, AllocError> {
     let mut text = String::new(alloc);
-    if !json {
-        add_asked(&mut text, asked)?;
+    if json {
+        add_json(alloc, &mut text, list, "read", reading)?;
+        add_json(alloc, &mut text, list, "write", writing)?;
+        return Ok(text);
     }
-    add_verdict(alloc, &mut text, list, "read", reading, json)?;
-    add_verdict(alloc, &mut text, list, "write", writing, json)?;
+    add_asked(&mut text, asked)?;
+    add_words(&mut text, list, "read", reading)?;
+    add_words(&mut text, list, "write", writing)?;
     Ok(text)
 }

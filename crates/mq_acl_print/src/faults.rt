@@ -7,12 +7,6 @@ fn is_blank(rules: Rules, c: char) -> bool {
     c == ' ' || (c == '\t' && rules == Rules::Own)
 }
 
-// The line without what these rules drop at its ends.
-fn trimmed(rules: Rules, line: &str) -> &str {
-    line.trim_end()
-        .trim_start_matches(|c: char| is_blank(rules, c))
-}
-
 // The first word of a text that begins with none of its blanks, and what follows it and its blanks.
 fn split_word(rules: Rules, text: &str) -> (&str, &str) {
     match text.split_once(|c: char| is_blank(rules, c)) {
@@ -41,7 +35,8 @@ pub fn fault_words(
     line: &str,
     kind: AclKind,
 ) -> Result<String, AllocError> {
-    let line = trimmed(rules, line);
+    let line = line.trim_end();
+    let line = line.trim_start_matches(|c: char| is_blank(rules, c));
     let (keyword, rest) = split_word(rules, line);
     match kind {
         AclKind::Keyword => unknown(alloc, "keyword", keyword, "topic, pattern or user"),

@@ -37,16 +37,10 @@ pub enum Datum<'a> {
     Exceptions(&'a [Exception<'a>]),
 }
 
-fn push_text(alloc: Global, texts: &mut Vec<Value>, text: &str) -> Result<(), AllocError> {
-    let text = Value::try_from_str(alloc, text)?;
-    texts.push(text)?;
-    Ok(())
-}
-
 fn texts_value(alloc: Global, texts: &[String]) -> Result<Value, AllocError> {
     let mut values = Vec::new(alloc);
     for text in texts {
-        push_text(alloc, &mut values, text.as_str())?;
+        values.push(Value::try_from_str(alloc, text.as_str())?)?;
     }
     Ok(Value::Array(values))
 }
@@ -72,19 +66,15 @@ fn put_text(
     put(alloc, members, name, text)
 }
 
-fn line_value(alloc: Global, line: Line<'_>) -> Result<Value, AllocError> {
+fn line_or_null(alloc: Global, line: Option<Line<'_>>) -> Result<Value, AllocError> {
+    let Some(line) = line else {
+        return Ok(Value::Null);
+    };
     let mut members = Map::new(alloc);
     put_text(alloc, &mut members, "file", line.file)?;
     put(alloc, &mut members, "line", Value::from(line.number))?;
     put_text(alloc, &mut members, "text", line.text)?;
     Ok(Value::Object(members))
-}
-
-fn line_or_null(alloc: Global, line: Option<Line<'_>>) -> Result<Value, AllocError> {
-    match line {
-        Some(line) => line_value(alloc, line),
-        None => Ok(Value::Null),
-    }
 }
 
 fn text_or_null(alloc: Global, text: Option<&str>) -> Result<Value, AllocError> {
@@ -125,35 +115,18 @@ fn datum_value(alloc: Global, datum: Datum<'_>) -> Result<Value, AllocError> {
     }
 }
 
-fn put_datum(
-    alloc: Global,
-    members: &mut Map<String, Value>,
-    name: &str,
-    datum: Datum<'_>,
-) -> Result<(), AllocError> {
-    let value = datum_value(alloc, datum)?;
-    put(alloc, members, name, value)
-}
-
-fn object(alloc: Global, data: &[(&str, Datum<'_>)]) -> Result<Value, AllocError> {
-    let mut members = Map::new(alloc);
-    for (name, datum) in data {
-        put_datum(alloc, &mut members, name, *datum)?;
-    }
-    Ok(Value::Object(members))
-}
-
-fn object_text(alloc: Global, data: &[(&str, Datum<'_>)]) -> Result<String, AllocError> {
-    object(alloc, data)?.to_string(alloc)
-}
-
 /// Adds an object of these data under their names, and a line feed. The only error is that memory is refused.
 pub fn add_object(
     alloc: Global,
     text: &mut String,
     data: &[(&str, Datum<'_>)],
 ) -> Result<(), AllocError> {
-    let object = object_text(alloc, data)?;
-    text.push_str(object.as_str())?;
+    let mut members = Map::new(alloc);
+    for (name, datum) in data {
+        let value = datum_value(alloc, *datum)?;
+        put(alloc, &mut members, name, value)?;
+    }
+    let line = Value::Object(members).to_string(alloc)?;
+    text.push_str(line.as_str())?;
     text.push('\n')
 }

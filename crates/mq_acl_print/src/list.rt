@@ -23,6 +23,18 @@ impl<'a, 't> ListText<'a, 't> {
     }
 }
 
+impl<'a> ListText<'a, 'a> {
+    // The line with this number, if there is one.
+    pub(crate) fn line_if(self, number: Option<u64>) -> Option<Line<'a>> {
+        let number = number?;
+        Some(Line {
+            file: self.file,
+            number,
+            text: self.line(number),
+        })
+    }
+}
+
 /// A line of a list.
 #[derive(Clone, Copy, Drop)]
 pub struct Line<'a> {
@@ -65,5 +77,17 @@ impl<'a, 'l, 't> Lines<'a, 'l, 't> {
     /// The line with this number, without the blanks round it.
     pub fn line(self, number: u64) -> &'t str {
         self.whole_line(number).trim()
+    }
+}
+
+impl<'a> Lines<'a, 'a, 'a> {
+    /// The line with this number, if there is one.
+    pub fn line_if(self, number: Option<u64>) -> Option<Line<'a>> {
+        let number = number?;
+        Some(Line {
+            file: self.file,
+            number,
+            text: self.line(number),
+        })
     }
 }

@@ -25,8 +25,8 @@ impl Drop for DenialRow<'_> {
 
 /// What a line allows the clients of some classes.
 pub(crate) struct PermissionRow<'a> {
-    // Of each class one.
-    all: Vec<&'a Difference>,
+    /// Of each class one.
+    pub(crate) all: Vec<&'a Difference>,
     /// The clients, in words, once all are known.
     pub(crate) who: String,
     /// Whether they may read or write.
@@ -53,17 +53,6 @@ impl Drop for PermissionRow<'_> {
     }
 }
 
-impl<'a> PermissionRow<'a> {
-    /// One of those that it is about.
-    pub(crate) fn first(&self) -> Option<&'a Difference> {
-        self.all.get(0).copied()
-    }
-}
-
-fn is_denied(difference: &Difference) -> bool {
-    matches!(difference.old_reason, Reason::Deny(_))
-}
-
 fn denial_row<'a>(
     alloc: Global,
     list: Lines<'a, 'a, 'a>,
@@ -82,8 +71,10 @@ fn denial_rows<'a>(
     refused: &[&'a Difference],
 ) -> Result<Vec<DenialRow<'a>>, AllocError> {
     let mut rows = Vec::new(alloc);
-    for other in refused.iter().filter(|other| is_denied(other)) {
-        rows.push(denial_row(alloc, list, other)?)?;
+    for other in refused {
+        if matches!(other.old_reason, Reason::Deny(_)) {
+            rows.push(denial_row(alloc, list, other)?)?;
+        }
     }
     Ok(rows)
 }

@@ -1,5 +1,5 @@
 //! Who may read or write the topics that a filter matches, in words and as JSON.
-use crate::deciding::{Side, line_if};
+use crate::deciding::Side;
 use crate::json::{Datum, Exception, add_object};
 use crate::list::{Lines, ListText, lines_of};
 use crate::permission_rows::{PermissionRow, PermissionRows};
@@ -71,7 +71,7 @@ fn exceptions<'a>(
     for other in refused {
         all.push(Exception {
             client: other.client.as_str(),
-            line: line_if(list, other.old_reason),
+            line: list.line_if(other.old_reason.line()),
             topic: other.topic.text(),
             user: other.class.user(),
         })?;
@@ -89,7 +89,10 @@ fn permission_data<'d>(
         ("access", Datum::Text(access_word(granted.direction))),
         ("client", Datum::Text(granted.client.as_str())),
         ("every", Datum::Flag(exceptions.is_empty())),
-        ("line", Datum::LineIf(line_if(list, granted.old_reason))),
+        (
+            "line",
+            Datum::LineIf(list.line_if(granted.old_reason.line()))
+        ),
         ("not", Datum::Exceptions(exceptions)),
         ("placeholders", Datum::Texts(&granted.placeholders)),
         ("topic", Datum::Text(granted.topic.text())),
@@ -142,17 +145,6 @@ fn rows_of<'a>(
     Ok(rows)
 }
 
-// With those of the row and of what is denied of it.
-fn widen(widths: &mut Widths, row: &PermissionRow<'_>) {
-    widths.access = widened(widths.access, row.access);
-    widths.topic = widened(widths.topic, row.topic.as_str());
-    widths.place = widened(widths.place, row.side.place.as_str());
-    for denial in &row.denials {
-        widths.topic = widened(widths.topic, denial.topic.as_str());
-        widths.place = widened(widths.place, denial.side.place.as_str());
-    }
-}
-
 fn widths_of(asked: Asked<'_>, rows: &[PermissionRow<'_>]) -> Widths {
     let mut widths = Widths {
         access: 0,
@@ -163,7 +155,13 @@ fn widths_of(asked: Asked<'_>, rows: &[PermissionRow<'_>]) -> Widths {
         widths.place = widened(0, traffic.script.file);
     }
     for row in rows {
-        widen(&mut widths, row);
+        widths.access = widened(widths.access, row.access);
+        widths.topic = widened(widths.topic, row.topic.as_str());
+        widths.place = widened(widths.place, row.side.place.as_str());
+        for denial in &row.denials {
+            widths.topic = widened(widths.topic, denial.topic.as_str());
+            widths.place = widened(widths.place, denial.side.place.as_str());
+        }
     }
     widths
 }
@@ -199,7 +197,7 @@ fn add_publishes(
     row: &PermissionRow<'_>,
     widths: Widths,
 ) -> Result<(), AllocError> {
-    let (Some(traffic), Some(granted)) = (asked.traffic, row.first()) else {
+    let (Some(traffic), Some(granted)) = (asked.traffic, row.all.get(0)) else {
         return Ok(());
     };
     let publishes = traffic.publishes(alloc, asked.filter, granted)?;

@@ -21,28 +21,15 @@ enum Kind {
     Both,
 }
 
-fn is_user(difference: &Difference, text: &str) -> bool {
-    match difference.class.user() {
-        Some(user) => user == text,
-        None => false,
-    }
-}
-
 fn kind_of(difference: &Difference, text: &str) -> Kind {
     let is_client = text == difference.client.as_str();
-    match (is_client, is_user(difference, text)) {
+    let is_user = difference.class.user() == Some(text);
+    match (is_client, is_user) {
         (true, true) => Kind::Both,
         (true, false) => Kind::ClientId,
         (false, true) => Kind::User,
         (false, false) => Kind::Level,
     }
-}
-
-// Whether it stands for those alone that begin with `$`. Of a client id or a user name this is so
-// at the front of a topic.
-fn is_hidden(level: &str, place: usize, kind: Kind) -> bool {
-    let matters = place == 0 || matches!(kind, Kind::Level);
-    matters && level.starts_with('$')
 }
 
 fn placeholder(kind: Kind, hidden: bool) -> &'static str {
@@ -64,7 +51,9 @@ fn shown_level<'a>(difference: &Difference, place: usize, level: &'a str) -> &'a
         return level;
     }
     let kind = kind_of(difference, level);
-    placeholder(kind, is_hidden(level, place, kind))
+    // a client id or a user name stands for those alone that begin with `$` only at the front of a topic
+    let matters = place == 0 || matches!(kind, Kind::Level);
+    placeholder(kind, matters && level.starts_with('$'))
 }
 
 /// Adds the client id where it stands for itself alone.

@@ -15,19 +15,6 @@ pub struct ScriptTraffic<'a> {
     pub traffic: &'a Traffic,
 }
 
-fn pattern_of(row: &Row) -> TopicPattern<'_> {
-    TopicPattern {
-        filter: row.filter.text(),
-        has_marks: matches!(row.owner, Owner::Everyone),
-    }
-}
-
-// The row of this line. The rows stand in the order of their lines.
-fn row_at(rows: &[Row], line: u64) -> Option<&Row> {
-    let place = rows.partition_point(|row| row.line < line);
-    rows.get(place)
-}
-
 /// Adds the filter of the line that decides, if one does.
 pub(crate) fn add_pattern<'a>(
     patterns: &mut Vec<TopicPattern<'a>>,
@@ -37,8 +24,13 @@ pub(crate) fn add_pattern<'a>(
     let Some(line) = reason.line() else {
         return Ok(());
     };
-    if let Some(row) = row_at(rows, line) {
-        patterns.push(pattern_of(row))?;
+    // the rows stand in the order of their lines
+    let place = rows.partition_point(|row| row.line < line);
+    if let Some(row) = rows.get(place) {
+        patterns.push(TopicPattern {
+            filter: row.filter.text(),
+            has_marks: matches!(row.owner, Owner::Everyone),
+        })?;
     }
     Ok(())
 }

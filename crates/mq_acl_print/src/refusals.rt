@@ -60,19 +60,10 @@ impl<'a> Refusals<'a> {
         let key = key_of(alloc, granted)?;
         let mut all = Vec::new(alloc);
         for place in self.places_at(key.as_str()) {
-            push_at(&mut all, self.refused, *place)?;
+            if let Some(difference) = self.refused.get(*place) {
+                all.push(difference)?;
+            }
         }
         Ok(all)
     }
-}
-
-fn push_at<'a>(
-    all: &mut Vec<&'a Difference>,
-    refused: &'a [Difference],
-    place: usize,
-) -> Result<(), AllocError> {
-    if let Some(difference) = refused.get(place) {
-        all.push(difference)?;
-    }
-    Ok(())
 }

@@ -126,30 +126,23 @@ fn add_subscription<'a>(
     )
 }
 
-fn add_counts(
-    alloc: Global,
-    text: &mut String,
-    unreached: usize,
-    counts: Counts,
-) -> Result<(), AllocError> {
-    add_object(
-        alloc,
-        text,
-        &[
-            ("first_invalid_line", Datum::NumberIf(counts.first_faulty)),
-            ("invalid_lines", Datum::Number(counts.faulty)),
-            ("receive_nothing", Datum::Number(unreached as u64)),
-            ("subscriptions", Datum::Number(counts.subscriptions)),
-        ],
-    )
-}
-
 fn json_lines(alloc: Global, script: &str, findings: &Findings) -> Result<String, AllocError> {
     let mut text = String::new(alloc);
     for subscription in &findings.unreached {
         add_subscription(alloc, &mut text, script, subscription)?;
     }
-    add_counts(alloc, &mut text, findings.unreached.len(), findings.counts)?;
+    let counts = findings.counts;
+    let unreached = findings.unreached.len() as u64;
+    add_object(
+        alloc,
+        &mut text,
+        &[
+            ("first_invalid_line", Datum::NumberIf(counts.first_faulty)),
+            ("invalid_lines", Datum::Number(counts.faulty)),
+            ("receive_nothing", Datum::Number(unreached)),
+            ("subscriptions", Datum::Number(counts.subscriptions)),
+        ],
+    )?;
     Ok(text)
 }
 

@@ -1,19 +1,15 @@
 //! Columns.
 use std::alloc::AllocError;
 
-fn char_count(text: &str) -> usize {
-    text.chars().count()
-}
-
 /// The greater of a width and that of a text, in characters.
 pub(crate) fn widened(width: usize, text: &str) -> usize {
-    width.max(char_count(text))
+    width.max(text.chars().count())
 }
 
 /// Adds a text, and blanks up to the width and two more.
 pub(crate) fn add_cell(line: &mut String, text: &str, width: usize) -> Result<(), AllocError> {
     line.push_str(text)?;
-    for _ in char_count(text)..width {
+    for _ in text.chars().count()..width {
         line.push(' ')?;
     }
     line.push_str("  ")?;

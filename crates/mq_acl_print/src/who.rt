@@ -6,10 +6,6 @@ use std::alloc::{AllocError, Global};
 /// How many user names are shown in a row.
 const MOST_NAMES: usize = 4;
 
-fn has_anonymous(all: &[&Difference]) -> bool {
-    all.iter().any(|one| matches!(one.class, Class::Anonymous))
-}
-
 // Whether it is of all user names that no line is for: the one that it shows stands for them.
 fn is_of_others(difference: &Difference) -> bool {
     match &difference.class {
@@ -18,35 +14,18 @@ fn is_of_others(difference: &Difference) -> bool {
     }
 }
 
-fn has_others(all: &[&Difference]) -> bool {
-    all.iter().any(|one| is_of_others(one))
-}
-
-// The user name of a difference that is of this one alone: a line is for it, or names it as a level.
-fn push_name<'a>(names: &mut Vec<&'a str>, difference: &'a Difference) -> Result<(), AllocError> {
-    if is_of_others(difference) {
-        return Ok(());
-    }
-    if let Some(name) = difference.class.user() {
-        names.push(name)?;
-    }
-    Ok(())
-}
-
-// The user names that they are of, each for itself.
+// The user names that they are of, each for itself: a line is for it, or names it as a level.
 fn names<'a>(alloc: Global, all: &[&'a Difference]) -> Result<Vec<&'a str>, AllocError> {
     let mut names = Vec::new(alloc);
     for one in all {
-        push_name(&mut names, one)?;
+        if is_of_others(one) {
+            continue;
+        }
+        if let Some(name) = one.class.user() {
+            names.push(name)?;
+        }
     }
     Ok(names)
-}
-
-fn separator(place: usize) -> &'static str {
-    match place {
-        0 => " ",
-        _ => ", ",
-    }
 }
 
 fn add_part(text: &mut String, part: &str) -> Result<(), AllocError> {
@@ -56,21 +35,17 @@ fn add_part(text: &mut String, part: &str) -> Result<(), AllocError> {
     text.push_str(part)
 }
 
-fn add_more(text: &mut String, count: usize) -> Result<(), AllocError> {
-    if count <= MOST_NAMES {
-        return Ok(());
-    }
-    let more = count - MOST_NAMES;
-    write!(text, " and {more} more")
-}
-
 fn add_names(text: &mut String, names: &[&str]) -> Result<(), AllocError> {
     add_part(text, if names.len() == 1 { "user" } else { "users" })?;
     for (place, name) in names.iter().take(MOST_NAMES).enumerate() {
-        text.push_str(separator(place))?;
+        text.push_str(if place == 0 { " " } else { ", " })?;
         text.push_str(name)?;
     }
-    add_more(text, names.len())
+    if names.len() <= MOST_NAMES {
+        return Ok(());
+    }
+    let more = names.len() - MOST_NAMES;
+    write!(text, " and {more} more")
 }
 
 fn add_users(alloc: Global, text: &mut String, all: &[&Difference]) -> Result<(), AllocError> {
@@ -82,11 +57,11 @@ fn add_users(alloc: Global, text: &mut String, all: &[&Difference]) -> Result<()
 }
 
 fn add_classes(alloc: Global, text: &mut String, all: &[&Difference]) -> Result<(), AllocError> {
-    if has_anonymous(all) {
+    if all.iter().any(|one| matches!(one.class, Class::Anonymous)) {
         add_part(text, "no user name")?;
     }
     add_users(alloc, text, all)?;
-    if has_others(all) {
+    if all.iter().any(|one| is_of_others(one)) {
         add_part(text, "other users")?;
     }
     Ok(())

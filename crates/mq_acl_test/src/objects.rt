@@ -4,8 +4,7 @@ use crate::finding::Finding;
 use crate::list::ReadList;
 use crate::verdicts::{Verdict, holding};
 use crate::words::finding_words;
-use mq_acl::Direction;
-use mq_acl_print::{Datum, Line, Lines, add_object};
+use mq_acl_print::{Datum, Line, Lines, access_word, add_object};
 use mq_topic::LevelText;
 use std::alloc::{AllocError, Global};
 
@@ -48,17 +47,10 @@ fn nothing<'v>() -> Shown<'v> {
     }
 }
 
-fn access_name(direction: Direction) -> &'static str {
-    match direction {
-        Direction::Reading => "read",
-        Direction::Writing => "write",
-    }
-}
-
 fn shown_in<'v>(case: Case<'v>) -> Shown<'v> {
     let shown = case.shown;
     Shown {
-        access: Some(access_name(shown.direction)),
+        access: Some(access_word(shown.direction)),
         client: Some(shown.client.as_str()),
         user: shown.class.user(),
         topic: Some(shown.topic.text()),
