@@ -102,8 +102,8 @@ pub enum Failure<'a> {
     /// By mosquitto's rules nothing is asked about the user.
     #[error("mqroute-acl: user {0}: by mosquitto's rules nothing is asked about a user whose name holds /, + or #")]
     UserMark(&'a str),
-    /// Each text that could stand for other client ids is named by a list or the plan.
-    #[error("mqroute-acl: the lists and the plan name each text that could stand for other client ids")]
+    /// Each of the 290 texts that are tried for all other client ids is named by a list or the plan.
+    #[error("mqroute-acl: the lists and the plan name each of the 290 texts that are tried for other client ids")]
     NoClient,
     /// The steps don't suffice to compare two lists through this plan.
     #[error("mqroute-acl: {0}: gave up: lines overlap in too many ways")]
