@@ -103,11 +103,12 @@ class Words(unittest.TestCase):
         plain = report(found, Terminal(60))
         self.assertLessEqual(max(map(len, plain.splitlines()[:-1])), 60)
         self.assertIn("  users user-0, user-1, user-2, user-3 and 5 more\n    may now read  "
-                      "plant/hall/press/temperature\n", plain)
+                      "for example plant/hall/press/temperature\n", plain)
         self.assertNotIn("\33", plain)
         painted = report(found, Terminal(60, True))
         self.assertIn(f'{RED}  "\\u001b[31mu" loses 3 of 9 (33 %){PLAIN}\n', painted)
-        self.assertIn(f"{GREEN}    may now read  plant/hall/press/temperature{PLAIN}\n", painted)
+        self.assertIn(f"{GREEN}    may now read  for example plant/hall/press/temperature{PLAIN}\n",
+                      painted)
         self.assertEqual(re.sub("\33\\[\\d+m", "", painted), plain)
 
     def test_where_there_are_colours(self):

@@ -11,7 +11,8 @@ from .findings import (
 from .gathered_topics import Topics
 from .page_tables import Column, cell, head_cell, number, row, table
 from .words import (
-    NO_LINE, NO_RULE, OTHERWISE, client_of, concerned, may, share, topic_count, topic_of, whom)
+    NO_LINE, NO_RULE, OTHERWISE, client_of, concerned, example_of, may, share, topic_count,
+    topic_of, whom)
 
 USERS = (Column("User"), Column("Clients", True), Column("Before", True), Column("After", True),
          Column("Lost", True), Column("Gained", True), Column("Topics"))
@@ -93,7 +94,8 @@ class Rows:
         more = f"<div class='placeholders'>{escaped(notes)}</div>" if notes else ""
         return row((head_cell(f"<bdi>{escaped(concerned(one, None))}</bdi>"),
                     cell(may(one), f"may {one.change}"),
-                    cell(f"<code><bdi>{visible(topic_of(one))}</bdi></code>{more}", "topic"),
+                    cell(f"{example_of(one)}<code><bdi>{visible(topic_of(one))}</bdi></code>{more}",
+                         "topic"),
                     cell(self.deciding(one.deciding, self.rule(one)), "lines")))
 
     def subscriptions(self) -> str:

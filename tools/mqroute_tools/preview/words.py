@@ -131,6 +131,14 @@ def topic_of(right: Right) -> str:
                                 for place, level in enumerate(name.split("/"))) for name in names)
 
 
+def example_of(right: Right) -> str:
+    """The words before the topic, if the lines that decide have wildcards, and so may decide about
+    others too."""
+    lines = right.deciding.current, right.deciding.proposed, right.rule
+    several = all("+" in line.text or "#" in line.text for line in lines if line)
+    return "for example " if several else ""
+
+
 def client_of(right: Right) -> str:
     """The client id, where it stands for itself alone."""
     first = right.clients[0]
