@@ -30,9 +30,10 @@ TOP = pathlib.Path(__file__).resolve().parent.parent
 PROGRAM = TOP / "bin/mqroute"
 # Beside few things no command takes as many instructions.
 MOST_INSTRUCTIONS = 100_000
-# How many things a command concerns; how many copies of a long payload there are; how many things
-# are kept. Each is measured with so many, and with twice as many.
-SOME, COPIES, KEPT = 500, 20, 4_000
+# How many things a command concerns, and how many where its instructions are counted, which takes
+# a while; how many copies of a long payload there are; how many things are kept. Each is measured
+# with so many, and with twice as many.
+SOME, STEPPED, COPIES, KEPT = 500, 100, 20, 4_000
 # A piece of the script is read at a time, 64 KiB of it; with as much again for lists.
 MOST_AT_START = 300_000
 
@@ -92,19 +93,22 @@ def growth(counter):
             *(no_more(name, few[refused], few[name]) for name, refused in scripts.WITHOUT_MEMORY)]
 
 
-def cost_of(counter, name, script, copies, long=0):
+def cost_of(counter, name, script, copies, long=0, most=()):
     """What a command costs behind what it concerns."""
     before, line = script
-    run = counter.run(before, [line], options=["--max-queued", str(len(before))], long=long)
+    run = counter.run(before, [line], options=["--max-queued", str(len(before))], most=most,
+                      long=long)
     answered(name, run.answers[0], copies, 0)
     return run.costs[0]._replace(held=run.costs[0].held - run.before.held)
 
 
 def concern(counter, one):
     """A command that concerns some things, and one that concerns twice as many."""
-    few, many = (cost_of(counter, one.name, one.script(n), one.copies(n))
-                 for n in (SOME, 2 * SOME))
-    return [for_each(one.name, kind, few, many, SOME, most) for kind, most in one.bounds.items()]
+    most = one.bounds.get("instructions", 0)
+    n = STEPPED if most else SOME
+    few, many = (cost_of(counter, one.name, one.script(m), one.copies(m), most=[2 * most * m])
+                 for m in (n, 2 * n))
+    return [for_each(one.name, kind, few, many, n, most) for kind, most in one.bounds.items()]
 
 
 def payload(counter, name, script, copies, most):
