@@ -1,7 +1,7 @@
 -- The prefixes of a node's keys, child by child.
-use Rattle.std.proofs.Common.{◌≡◌, ◌≢◌, ℕ, Bool, true, false, not, cond, List, [], ◌∷◌, ◌++◌, map}
-use Rattle.std.proofs.Common.{length, Option, Some, None, nat_cmp, refl, sym, ap, ap₂, ◌∙◌, arith}
-use Rattle.std.proofs.Common.{append_assoc, length-append}
+use Rattle.std.proofs.Common.{◌≡◌, ◌≢◌, ℕ, Bool, true, false, not, List, [], ◌∷◌, ◌++◌, map, length}
+use Rattle.std.proofs.Common.{Option, Some, None, nat_cmp, refl, ap, arith, append_assoc}
+use Rattle.std.proofs.Common.{length-append}
 use Rattle.std.specs.Cmp.Lexicographic.{slice_cmp}
 use Rattle.std.specs.Str.{bytes_eq}
 use Rattle.std.specs.Map.{keys_of}
@@ -23,26 +23,14 @@ Apart l (m ∷ k) = bytes_eq l m ≡ false
 
 filter_all : (l : List ℕ) (last : List (List ℕ)) (ps : List (List (List ℕ))) → Apart l last
     → filter (λ p. not (is_prefix p last)) (map (λ p. l ∷ p) ps) ≡ map (λ p. l ∷ p) ps
-filter_all l [] [] a = refl
-filter_all l (m ∷ k) [] a = refl
-filter_all l [] (p ∷ ps) a = ap (λ qs. (l ∷ p) ∷ qs) (filter_all l [] ps a)
-filter_all l (m ∷ k) (p ∷ ps) a = rw a (ap (λ qs. (l ∷ p) ∷ qs) (filter_all l (m ∷ k) ps a))
+filter_all l last [] a = refl
+filter_all l last (p ∷ ps) a = grind (arith, filter_all l last ps a)
 
 filter_same : (l : List ℕ) (last : List (List ℕ)) (ps : List (List (List ℕ)))
     → filter (λ p. not (is_prefix p (l ∷ last))) (map (λ p. l ∷ p) ps)
     ≡ map (λ p. l ∷ p) (filter (λ p. not (is_prefix p last)) ps)
 filter_same l last [] = refl
-filter_same l last (p ∷ ps) =
-    let rest = filter_same l last ps in
-    rw (text_itself l) (elim (is_prefix p last)
-    as (λ b. cond (not b) ((l ∷ p) ∷ filter (λ p. not (is_prefix p (l ∷ last)))
-    (map (λ p. l ∷ p) ps))
-    (filter (λ p. not (is_prefix p (l ∷ last))) (map (λ p. l ∷ p) ps))
-    ≡ map (λ p. l ∷ p) (cond (not b) (p ∷ filter (λ p. not (is_prefix p last)) ps)
-    (filter (λ p. not (is_prefix p last)) ps))) [
-      | true ↦ rest
-      | false ↦ ap (λ qs. (l ∷ p) ∷ qs) rest
-    ])
+filter_same l last (p ∷ ps) = grind (arith, text_itself l, filter_same l last ps)
 
 heads_none : (k : List (List ℕ)) → filter (λ p. not (is_prefix p [])) (heads k) ≡ heads k
 heads_none [] = refl
@@ -66,10 +54,13 @@ under_list : {V : Type 0} (l : List ℕ) (last : List (List ℕ)) (es rest : Ent
 under_list l last [] rest R f = f last
 under_list l last (e ∷ es) rest R f =
     let new = filter (λ p. not (is_prefix p last)) (heads e.0) in
-    ap₂ (λ a b. a ++ b) (new_same l last e.0) (under_list l e.0 es rest R f)
-    ∙ sym (append_assoc (map (λ p. l ∷ p) new) (map (λ p. l ∷ p) (prefixes_after e.0 (keys_of es)))
-    R)
-    ∙ ap (λ ps. ps ++ R) (sym (map-append (λ p. l ∷ p) new (prefixes_after e.0 (keys_of es))))
+    grind (
+      arith,
+      new_same l last e.0,
+      under_list l e.0 es rest R f,
+      append_assoc (map (λ p. l ∷ p) new) (map (λ p. l ∷ p) (prefixes_after e.0 (keys_of es))) R,
+      map-append (λ p. l ∷ p) new (prefixes_after e.0 (keys_of es)),
+    )
 
 -- a child's own prefix, and those below it
 abbrev pub block : {V : Type 0} → List ℕ × Entries V → List (List (List ℕ))
@@ -80,24 +71,17 @@ block_list : {V : Type 0} (child : List ℕ × Entries V) (last : List (List ℕ
     → Apart child.0 last → child.1 ≢ []
     → ((k : List (List ℕ)) → prefixes_after (child.0 ∷ k) (keys_of rest) ≡ R)
     → prefixes_after last (keys_of (under child.0 child.1 ++ rest)) ≡ block child ++ R
-block_list {V} child last rest R a h f =
-    let l = child.0 in
-    let go : (es : Entries V) → es ≢ [] → prefixes_after last (keys_of (under l es ++ rest))
-    ≡ block (l, es) ++ R =
-    λ es. elim es as (λ es. es ≢ [] → prefixes_after last (keys_of (under l es ++ rest))
-    ≡ block (l, es) ++ R) [
-      | [] ↦ λ n. absurd (n refl)
-      | e ∷ es ↦ λ n.
-          ap₂ (λ x y. x ++ y) (new_apart l last e.0 a) (under_list l e.0 es rest R f)
-          ∙ ap (λ ps. (l ∷ []) ∷ ps)
-          (sym (append_assoc (map (λ p. l ∷ p) (heads e.0))
-          (map (λ p. l ∷ p) (prefixes_after e.0 (keys_of es))) R)
-          ∙ ap (λ ps. ps ++ R)
-          (sym (map-append (λ p. l ∷ p) (heads e.0) (prefixes_after e.0 (keys_of es)))
-          ∙ ap (λ ps. map (λ p. l ∷ p) (ps ++ prefixes_after e.0 (keys_of es)))
-          (sym (heads_none e.0))))
-    ] in
-    go child.1 h
+block_list (l, []) last rest R a h f = absurd (h refl)
+block_list (l, e ∷ es) last rest R a h f =
+    grind (
+      arith,
+      new_apart l last e.0 a,
+      under_list l e.0 es rest R f,
+      heads_none e.0,
+      append_assoc (map (λ p. l ∷ p) (heads e.0)) (map (λ p. l ∷ p)
+          (prefixes_after e.0 (keys_of es))) R,
+      map-append (λ p. l ∷ p) (heads e.0) (prefixes_after e.0 (keys_of es)),
+    )
 
 blocks_after : {V : Type 0} (m : List ℕ) (k : List (List ℕ)) (children : Children V)
     → After m (keys_of children) → AreChildren children
@@ -131,12 +115,9 @@ pub length-blocks : {V : Type 0} (children : Children V)
     children
 length-blocks [] = refl
 length-blocks (child ∷ children) =
-    omega (
-      arith,
-      length-append (block child) (flat_map block children),
-      length-map (prefixes (keys_of child.1)) (λ p. child.0 ∷ p),
-      length-blocks children,
-    )
+    let a = length-append (block child) (flat_map block children) in
+    let b = length-map (prefixes (keys_of child.1)) (λ p. child.0 ∷ p) in
+    omega (arith, a, b, length-blocks children)
 
 -- ---- prefixes have a level
 abbrev pub is_here : List (List ℕ) → Bool
@@ -156,8 +137,7 @@ long_heads (l ∷ k) = (refl, long_map l (heads k))
 
 long_filter : (t : List (List ℕ) → Bool) (ps : List (List (List ℕ))) → Long ps → Long (filter t ps)
 long_filter t [] h = tt
-long_filter t (p ∷ ps) h = elim (t p) as (λ b. Long (cond b (p ∷ filter t ps) (filter t ps)))
-    [ true ↦ (h.0, long_filter t ps h.1) | false ↦ long_filter t ps h.1 ]
+long_filter t (p ∷ ps) h = grind (arith, long_filter t ps h.1)
 
 long_append : (ps qs : List (List (List ℕ))) → Long ps → Long qs → Long (ps ++ qs)
 long_append [] qs h g = g
@@ -172,3 +152,16 @@ long_after last (k ∷ ks) =
 -- each prefix that names a node has a level
 pub long_prefixes : (ks : List (List (List ℕ))) → Long (prefixes ks)
 long_prefixes ks = long_after [] ks
+
+agree_long : (p q : List (List ℕ) → Bool)
+    → ((m : List ℕ) (k : List (List ℕ)) → p (m ∷ k) ≡ q (m ∷ k)) → (ps : List (List (List ℕ)))
+    → Long ps → filter p ps ≡ filter q ps
+agree_long p q same [] l = refl
+agree_long p q same ([] ∷ ps) l = grind arith
+agree_long p q same ((m ∷ k) ∷ ps) l = grind (arith, same m k, agree_long p q same ps l.1)
+
+-- tests that agree on what has a level let the same nodes through
+pub met_agree : (p q : List (List ℕ) → Bool)
+    → ((m : List ℕ) (k : List (List ℕ)) → p (m ∷ k) ≡ q (m ∷ k)) → (ks : List (List (List ℕ)))
+    → length (filter p (prefixes ks)) ≡ length (filter q (prefixes ks))
+met_agree p q same ks = ap length (agree_long p q same (prefixes ks) (long_prefixes ks))

@@ -1,7 +1,7 @@
 -- How many keys and nodes a node has, and what its values hold together.
-use Rattle.std.proofs.Common.{true≢false, ◌≡◌, ℕ, ◌+◌, ◌≤◌, Bool, true, false, ◌↔◌, eqb, List}
-use Rattle.std.proofs.Common.{[], ◌∷◌, ◌++◌, length, Option, Some, None, is_some, refl, sym, ap}
-use Rattle.std.proofs.Common.{ap₂, ◌∙◌, suc, arith, length-append}
+use Rattle.std.proofs.Common.{true≢false, ◌≡◌, ℕ, ◌+◌, ◌≤◌, Bool, true, false, ◌↔◌, eqb, List, []}
+use Rattle.std.proofs.Common.{◌∷◌, ◌++◌, length, Option, Some, None, is_some, refl, ap, suc, arith}
+use Rattle.std.proofs.Common.{length-append}
 use mir.Val.{bool_byte}
 use Rattle.std.specs.List.{sum_by}
 use Rattle.std.specs.Map.{values_of}
@@ -23,34 +23,28 @@ pub length-below : {V : Type 0} (children : Children V)
     → length (below children) ≡ sum_by length (values_of children)
 length-below [] = refl
 length-below (child ∷ children) =
-    length-append (under child.0 child.1) (below children)
-    ∙ ap₂ (λ a b. a + b) (length-under child.0 child.1) (length-below children)
-    ∙ sym (sum_by-cons length child.1 (values_of children))
+    grind (
+      arith,
+      length-append (under child.0 child.1) (below children),
+      length-under child.0 child.1,
+      length-below children,
+      sum_by-cons length child.1 (values_of children),
+    )
 
 -- a node with a child has an entry below it
 pub some_below : {V : Type 0} (children : Children V) → AreChildren children → 1 ≤ length children
     → 1 ≤ length (below children)
 some_below [] h p = absurd (omega arith)
 some_below (child ∷ children) h p =
-    omega (
-      arith,
-      some_length child.1 h.live.0,
-      length-under child.0 child.1,
-      length-append (under child.0 child.1) (below children),
-    )
-
-nonzero : (n : ℕ) → 1 ≤ n → false ≡ eqb n 0
-nonzero n h = grind (arith, nat_tests)
+    let a = some_length child.1 h.live.0 in
+    let b = length-append (under child.0 child.1) (below children) in
+    omega (arith, a, b, length-under child.0 child.1)
 
 is_childless : {V : Type 0} (b : Bool) (children : Children V) → AreChildren children
     → ((b ≡ true) ↔ (length children ≡ 0)) → b ≡ eqb (length (below children)) 0
 is_childless b [] h f = f.1 refl
 is_childless b (child ∷ children) h f =
-    elim b as (λ b. (b ≡ true → length (child ∷ children) ≡ 0)
-    → b ≡ eqb (length (below (child ∷ children))) 0) [
-      | true ↦ λ g. let e : length (child ∷ children) ≡ 0 = g refl in absurd (omega arith)
-      | false ↦ λ g. nonzero _ (some_below (child ∷ children) h (omega arith))
-    ] f.0
+    grind (arith, nat_tests, f.0, some_below (child ∷ children) h)
 
 length-children : {Y V : Type 0} (nodes : Branches Y V) → length (children_of nodes) ≡ length nodes
 length-children [] = refl
@@ -63,11 +57,7 @@ pub empty_from_none : {Y V : Type 0} (b : Bool) (value : Option V) (nodes : Bran
     → AreChildren (children_of nodes) → ((b ≡ true) ↔ (length nodes ≡ 0))
     → b ≡ eqb (length (entries_of now)) 0
 empty_from_none b None nodes now e is h f =
-    rw (← is) (is_childless b (children_of nodes) h (
-      λ t. length-children nodes
-          ∙ f.0 t,
-      λ n. f.1 (sym (length-children nodes) ∙ n),
-    ))
+    rw (← is) (is_childless b (children_of nodes) h (rw (length-children nodes) f))
 empty_from_none b (Some v) nodes now e is h f = absurd (true≢false e)
 
 -- ---- keys
@@ -86,16 +76,21 @@ held-under : {V : Type 0} (f : V → ℕ) (l : List ℕ) (es : Entries V)
     → held f (under l es) ≡ held f es
 held-under f l [] = refl
 held-under f l (e ∷ es) =
-    sum_by-cons (λ x. f x.1) (l ∷ e.0, e.1) (under l es) ∙ ap (λ n. f e.1 + n) (held-under f l es)
-    ∙ sym (sum_by-cons (λ x. f x.1) e es)
+    let a = sum_by-cons (λ x. f x.1) (l ∷ e.0, e.1) (under l es) in
+    let b = sum_by-cons (λ x. f x.1) e es in
+    omega (arith, a, b, held-under f l es)
 
 held-below : {V : Type 0} (f : V → ℕ) (children : Children V)
     → held f (below children) ≡ sum_by (held f) (values_of children)
 held-below f [] = refl
 held-below f (child ∷ children) =
-    sum_by-append (λ e. f e.1) (under child.0 child.1) (below children)
-    ∙ ap₂ (λ a b. a + b) (held-under f child.0 child.1) (held-below f children)
-    ∙ sym (sum_by-cons (held f) child.1 (values_of children))
+    omega (
+      arith,
+      sum_by-append (λ e. f e.1) (under child.0 child.1) (below children),
+      held-under f child.0 child.1,
+      held-below f children,
+      sum_by-cons (held f) child.1 (values_of children),
+    )
 
 -- a node's own value and its children's values hold together what all of its entries hold,
 -- as a u64 gives it

@@ -1,10 +1,8 @@
 -- What an edit of one child does to the entries below a node.
-use Rattle.std.proofs.Common.{◌≡◌, ℕ, Bool, true, false, cond, List, [], ◌∷◌, ◌++◌, Option, Some}
-use Rattle.std.proofs.Common.{None, Ordering, Less, Equal, Greater, nat_cmp, is_eq, refl, sym, ap}
-use Rattle.std.proofs.Common.{◌∙◌}
+use Rattle.std.proofs.Common.{arith, ◌≡◌, ℕ, Bool, List, [], ◌∷◌, ◌++◌, Option, Some, None, Less}
+use Rattle.std.proofs.Common.{Equal, Greater, nat_cmp, refl, ap, ◌∙◌}
 use Rattle.std.specs.Cmp.Lexicographic.{slice_cmp}
 use Rattle.std.specs.BTreeMap.{is_at, insert_entry}
-use Rattle.std.specs.Ordering.{match_ordering, ordering_then}
 use Rattle.std.specs.Map.{keys_of, lookup, remove_entry, set_value}
 use Rattle.std.specs.List.{AllByRecursion}
 use Rattle.std.proofs.lemmas.Map.Lookups.{exact_bytes}
@@ -24,12 +22,12 @@ pub record IsEdit {V : Type 0} (l : List ℕ) (F G : Entries V → Entries V) : 
       → G (under m es ++ rest) ≡ under m (F es) ++ rest
   pub past : (m : List ℕ) (es rest : Entries V) → slice_cmp nat_cmp l m ≡ Greater
       → G (under m es ++ rest) ≡ under m es ++ G rest
+  pub stays : (value : Option V) (es : Entries V) → G (own value ++ es) ≡ own value ++ G es
 
 later_under : {V : Type 0} (l m : List ℕ) (es rest : Entries V) → slice_cmp nat_cmp l m ≡ Less
     → LaterKeys l rest → LaterKeys l (under m es ++ rest)
 later_under l m [] rest e h = h
-later_under l m (x ∷ es) rest e h =
-    (λ k. ap (λ o. ordering_then o (level_order k x.0)) e, later_under l m es rest e h)
+later_under l m (x ∷ es) rest e h = (λ k. rw e refl, later_under l m es rest e h)
 
 -- below children that all stand after l, each key comes after all keys that begin with l
 pub later_below : {V : Type 0} (l : List ℕ) (children : Children V) → After l (keys_of children)
@@ -43,72 +41,56 @@ pub edit_below : {V : Type 0} (l : List ℕ) (F G : Entries V → Entries V) (ch
     (es : Entries V) → IsEdit l F G → AreChildren children → lookup (is_level l) children ≡ Some es
     → below (set_value (is_level l) children (F es)) ≡ G (below children)
 edit_below l F G [] es i h found = cc
-edit_below {V} l F G (child ∷ children) es i h found =
-    let m = child.0 in
-    let go : (o : Ordering) → slice_cmp nat_cmp l m ≡ o
-    → cond (is_eq o) (Some child.1) (lookup (is_level l) children) ≡ Some es
-    → below (cond (is_eq o) ((child.0, F es) ∷ children)
-    (child ∷ set_value (is_level l) children (F es)))
-    ≡ G (under m child.1 ++ below children) =
-    λ o. elim o as (λ o. slice_cmp nat_cmp l m ≡ o
-    → cond (is_eq o) (Some child.1) (lookup (is_level l) children) ≡ Some es
-    → below (cond (is_eq o) ((child.0, F es) ∷ children)
-    (child ∷ set_value (is_level l) children (F es))) ≡ G (under m child.1 ++ below children)) [
-      | Less ↦ λ e f. let none = lookup-level-after l children
-          (After-tail-less l child children e h) in cc
-      | Equal ↦ λ e f.
-          let same : child.1 ≡ es = cc in
-          ap (λ x. under m (F x) ++ below children) (sym same)
-          ∙ sym (i.inside m child.1 (below children) e
-          (later_below l children (After-tail l child children e h)))
-      | Greater ↦ λ e f. ap (λ x. under m child.1 ++ x)
-          (edit_below l F G children es i (AreChildren-tail child children h) f)
-          ∙ sym (i.past m child.1 (below children) e)
-    ] in
-    go (slice_cmp nat_cmp l m) refl found
+edit_below l F G (child ∷ children) es i h found =
+    grind (
+      arith,
+      lookup-level-after l children,
+      After-tail-less l child children,
+      After-tail l child children,
+      later_below l children,
+      i.inside child.0 child.1 (below children),
+      i.past child.0 child.1 (below children),
+      edit_below l F G children es i (AreChildren-tail child children h),
+    )
 
 -- ---- removing
 pub remove_none : {K X : Type 0} (test : K → Bool) (es : List (K × X)) → lookup test es ≡ None
     → remove_entry test es ≡ es
 remove_none test [] h = refl
-remove_none test (x ∷ es) h =
-    elim (test x.0) as (λ b. cond b (Some x.1) (lookup test es) ≡ None
-    → cond b es (x ∷ remove_entry test es) ≡ x ∷ es)
-    [ true ↦ λ e. cc | false ↦ λ e. ap (λ xs. x ∷ xs) (remove_none test es e) ] h
+remove_none test (x ∷ es) h = grind (arith, remove_none test es)
 
 -- a key that begins with l is not found among entries that come after all such keys
 pub later_lookup : {V : Type 0} (l : List ℕ) (k : List (List ℕ)) (es : Entries V) → LaterKeys l es
     → lookup (is_key (l ∷ k)) es ≡ None
 later_lookup l k [] h = refl
-later_lookup l k (x ∷ es) h = rw (h.0 k) (later_lookup l k es h.1)
+later_lookup l k (x ∷ es) h = grind (arith, h.0 k, later_lookup l k es h.1)
 
 remove_inside : {V : Type 0} (l m : List ℕ) (k : List (List ℕ)) (es rest : Entries V)
     → slice_cmp nat_cmp l m ≡ Equal → LaterKeys l rest
     → remove_entry (is_key (l ∷ k)) (under m es ++ rest) ≡ under m (remove_entry (is_key k) es)
     ++ rest
 remove_inside l m k [] rest e h = remove_none (is_key (l ∷ k)) rest (later_lookup l k rest h)
-remove_inside l m k (x ∷ es) rest e h =
-    let more = remove_inside l m k es rest e h in
-    rw e (elim (is_key k x.0)
-    as (λ b. cond b (under m es ++ rest)
-    ((m ∷ x.0, x.1) ∷ remove_entry (is_key (l ∷ k)) (under m es ++ rest))
-    ≡ under m (cond b es (x ∷ remove_entry (is_key k) es)) ++ rest)
-    [ true ↦ refl | false ↦ ap (λ xs. (m ∷ x.0, x.1) ∷ xs) more ])
+remove_inside l m k (x ∷ es) rest e h = grind (arith, remove_inside l m k es rest e h)
 
 remove_past : {V : Type 0} (l m : List ℕ) (k : List (List ℕ)) (es rest : Entries V)
     → slice_cmp nat_cmp l m ≡ Greater → remove_entry (is_key (l ∷ k)) (under m es ++ rest)
     ≡ under m es ++ remove_entry (is_key (l ∷ k)) rest
 remove_past l m k [] rest e = refl
-remove_past l m k (x ∷ es) rest e =
-    rw e (ap (λ xs. (m ∷ x.0, x.1) ∷ xs) (remove_past l m k es rest e))
+remove_past l m k (x ∷ es) rest e = grind (arith, remove_past l m k es rest e)
+
+remove-own : {V : Type 0} (l : List ℕ) (k : List (List ℕ)) (value : Option V) (es : Entries V)
+    → remove_entry (is_key (l ∷ k)) (own value ++ es) ≡ own value
+    ++ remove_entry (is_key (l ∷ k)) es
+remove-own l k None es = refl
+remove-own l k (Some v) es = refl
 
 -- to remove the key l ∷ k is an edit of the child at l, which removes k there
 pub remove_edits : {V : Type 0} (l : List ℕ) (k : List (List ℕ))
     → IsEdit {V = V} l (remove_entry (is_key k)) (remove_entry (is_key (l ∷ k)))
 remove_edits l k = record {
-  inside = λ m es rest e h. remove_inside l m k es rest e h;
-  past =
-      λ m es rest e. remove_past l m k es rest e;
+  inside = λ m. remove_inside l m k;
+  past = λ m. remove_past l m k;
+  stays = remove-own l k;
 }
 
 -- ---- putting
@@ -121,8 +103,7 @@ insert_past : {V : Type 0} (l m : List ℕ) (k : List (List ℕ)) (v : V) (es re
     → slice_cmp nat_cmp l m ≡ Greater → insert_entry level_order (under m es ++ rest) (l ∷ k) v
     ≡ under m es ++ insert_entry level_order rest (l ∷ k) v
 insert_past l m k v [] rest e = refl
-insert_past l m k v (x ∷ es) rest e =
-    rw e (ap (λ xs. (m ∷ x.0, x.1) ∷ xs) (insert_past l m k v es rest e))
+insert_past l m k v (x ∷ es) rest e = grind (arith, insert_past l m k v es rest e)
 
 insert_inside : {V : Type 0} (l m : List ℕ) (k : List (List ℕ)) (v : V) (es rest : Entries V)
     → slice_cmp nat_cmp l m ≡ Equal → LaterKeys l rest
@@ -131,25 +112,22 @@ insert_inside : {V : Type 0} (l m : List ℕ) (k : List (List ℕ)) (v : V) (es 
 insert_inside l m k v [] rest e h = insert_later l k v rest h
     ∙ ap (λ n. (n ∷ k, v) ∷ rest) (exact_bytes l m e)
 insert_inside l m k v (x ∷ es) rest e h =
-    let more = insert_inside l m k v es rest e h in
-    rw e (elim (level_order k x.0)
-    as (λ o. match_ordering o ((l ∷ k, v) ∷ (m ∷ x.0, x.1) ∷ (under m es ++ rest))
-    ((m ∷ x.0, v) ∷ (under m es ++ rest))
-    ((m ∷ x.0, x.1) ∷ insert_entry level_order (under m es ++ rest) (l ∷ k) v)
-    ≡ under m (match_ordering o ((k, v) ∷ x ∷ es) ((x.0, v) ∷ es)
-    (x ∷ insert_entry level_order es k v)) ++ rest) [
-      | Less ↦ ap (λ n. (n ∷ k, v) ∷ (m ∷ x.0, x.1) ∷ (under m es ++ rest)) (exact_bytes l m e)
-      | Equal ↦ refl
-      | Greater ↦ ap (λ xs. (m ∷ x.0, x.1) ∷ xs) more
-    ])
+    grind (arith, exact_bytes l m e, insert_inside l m k v es rest e h)
+
+-- a node's own value stays where an entry is put below it
+insert-own : {V : Type 0} (l : List ℕ) (k : List (List ℕ)) (w : V) (value : Option V)
+    (es : Entries V) → insert_entry level_order (own value ++ es) (l ∷ k) w ≡ own value
+    ++ insert_entry level_order es (l ∷ k) w
+insert-own l k w None es = refl
+insert-own l k w (Some v) es = refl
 
 -- to put a value at the key l ∷ k is an edit of the child at l, which puts it at k there
 pub insert_edits : {V : Type 0} (l : List ℕ) (k : List (List ℕ)) (v : V)
     → IsEdit l (λ es. insert_entry level_order es k v) (λ es. insert_entry level_order es (l ∷ k) v)
 insert_edits l k v = record {
-  inside = λ m es rest e h. insert_inside l m k v es rest e h;
-  past =
-      λ m es rest e. insert_past l m k v es rest e;
+  inside = λ m. insert_inside l m k v;
+  past = λ m. insert_past l m k v;
+  stays = insert-own l k v;
 }
 
 -- a new child, with one entry
@@ -158,57 +136,23 @@ pub insert_branch : {V : Type 0} (text : List ℕ) (k : List (List ℕ)) (v : V)
     → below (insert_entry (slice_cmp nat_cmp) children text ((k, v) ∷ []))
     ≡ insert_entry level_order (below children) (text ∷ k) v
 insert_branch text k v [] h none = refl
-insert_branch {V} text k v (child ∷ children) h none =
-    let l = text in
-    let m = child.0 in
-    let go : (o : Ordering) → slice_cmp nat_cmp l m ≡ o
-    → cond (is_eq o) (Some child.1) (lookup (is_at ((slice_cmp nat_cmp) text)) children) ≡ None
-    → below (match_ordering o ((text, (k, v) ∷ []) ∷ child ∷ children)
-    ((child.0, (k, v) ∷ []) ∷ children)
-    (child ∷ insert_entry (slice_cmp nat_cmp) children text ((k, v) ∷ [])))
-    ≡ insert_entry level_order (under m child.1 ++ below children) (l ∷ k) v =
-    λ o. elim o as (λ o. slice_cmp nat_cmp l m ≡ o
-    → cond (is_eq o) (Some child.1) (lookup (is_at ((slice_cmp nat_cmp) text)) children)
-    ≡ None
-    → below (match_ordering o ((text, (k, v) ∷ []) ∷ child ∷ children)
-    ((child.0, (k, v) ∷ []) ∷ children)
-    (child ∷ insert_entry (slice_cmp nat_cmp) children text ((k, v) ∷ [])))
-    ≡ insert_entry level_order (under m child.1 ++ below children) (l ∷ k) v) [
-      | Less ↦ λ e f. sym (insert_later l k v (under m child.1 ++ below children)
-          (later_under l m child.1 (below children) e
-          (later_below l children (After-tail-less l child children e h))))
-      | Equal ↦ λ e f. cc
-      | Greater ↦ λ e f. ap (λ xs. under m child.1 ++ xs)
-          (insert_branch text k v children (AreChildren-tail child children h) f)
-          ∙ sym (insert_past l m k v child.1 (below children) e)
-    ] in
-    go (slice_cmp nat_cmp l m) refl none
+insert_branch text k v (child ∷ children) h none =
+    grind (
+      arith,
+      insert_later text k v (under child.0 child.1 ++ below children),
+      later_under text child.0 child.1 (below children),
+      later_below text children,
+      After-tail-less text child children,
+      insert_past text child.0 k v child.1 (below children),
+      insert_branch text k v children (AreChildren-tail child children h),
+    )
 
 -- ---- the node's own value
-pub remove-own : {V : Type 0} (l : List ℕ) (k : List (List ℕ)) (value : Option V) (es : Entries V)
-    → remove_entry (is_key (l ∷ k)) (own value ++ es) ≡ own value
-    ++ remove_entry (is_key (l ∷ k)) es
-remove-own l k None es = refl
-remove-own l k (Some v) es = refl
-
--- a node's own value stays where an entry is put below it
-pub insert-own : {V : Type 0} (l : List ℕ) (k : List (List ℕ)) (w : V) (value : Option V)
-    (es : Entries V) → insert_entry level_order (own value ++ es) (l ∷ k) w ≡ own value
-    ++ insert_entry level_order es (l ∷ k) w
-insert-own l k w None es = refl
-insert-own l k w (Some v) es = refl
-
-insert_nil_under : {V : Type 0} (m : List ℕ) (w : V) (es rest : Entries V)
-    → insert_entry level_order rest [] w ≡ ([], w) ∷ rest
-    → insert_entry level_order (under m es ++ rest) [] w ≡ ([], w) ∷ (under m es ++ rest)
-insert_nil_under m w [] rest h = h
-insert_nil_under m w (x ∷ es) rest h = refl
-
 insert_nil_below : {V : Type 0} (w : V) (children : Children V)
     → insert_entry level_order (below children) [] w ≡ ([], w) ∷ below children
 insert_nil_below w [] = refl
-insert_nil_below w (child ∷ children) =
-    insert_nil_under child.0 w child.1 (below children) (insert_nil_below w children)
+insert_nil_below w ((m, []) ∷ children) = insert_nil_below w children
+insert_nil_below w ((m, x ∷ es) ∷ children) = refl
 
 -- a value put at the empty key is the node's own
 pub insert-here : {V : Type 0} (w : V) (value : Option V) (children : Children V)

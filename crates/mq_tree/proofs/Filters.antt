@@ -14,7 +14,7 @@ use Rattle.mq_tree.specs.Falls.{weight-append, weight-under, some_length}
 use Rattle.mq_tree.specs.Nodes.{NodeView, Children, under, below, own, entries_of, weight, NoneDead}
 use Rattle.mq_tree.specs.Nodes.{AreChildren}
 use Rattle.mq_topic.specs.Prefixes.{prefixes}
-use Rattle.mq_tree.proofs.Blocks.{is_here, long_prefixes, prefixes_own, length-blocks}
+use Rattle.mq_tree.proofs.Blocks.{met_agree, prefixes_own, length-blocks}
 use Rattle.mq_tree.proofs.Levels.{not_same}
 use Rattle.mq_tree.proofs.Levelwise.{values_node, met_node, filter_each, filter_none}
 use Rattle.mq_tree.proofs.Names.{any_map, not_last}
@@ -43,15 +43,17 @@ pub all_met : {V : Type 0} (node : NodeView V) → AreChildren node.1
     ≡ tally (λ child. length (prefixes (keys_of child.1))) node.1
 all_met node are = ap length (prefixes_own node.0 node.1 are) ∙ length-blocks node.1
 
--- the first of some children weighs less than what they stand below
-pub first_weighs_less : {V : Type 0} (child : List ℕ × Entries V) (rest : Children V) (n : ℕ)
-    → NoneDead (child ∷ rest) → weight (below (child ∷ rest)) ≤ n → (weight child.1 < n)
-    × (weight (below rest) ≤ n)
-first_weighs_less child rest n live low =
+-- the first of some children weighs less than what they stand below, and so do the others
+pub next_weighs_less : {V : Type 0} (child : List ℕ × Entries V) (rest all : Children V) (n : ℕ)
+    → all ≡ child ∷ rest → NoneDead all → weight (below all) ≤ n → (weight child.1 < n)
+    × (weight (below rest) ≤ n) × NoneDead rest
+next_weighs_less child rest all n e live low =
     let a = weight-append (under child.0 child.1) (below rest) in
     let b = weight-under child.0 child.1 in
-    let s = some_length child.1 live.0 in
-    (omega (arith, a, b, s, low), omega (arith, a, b, s, low))
+    let l = rw e at live in
+    let w = rw e at low in
+    let s = some_length child.1 l.0 in
+    (omega (arith, a, b, s, w), omega (arith, a, b, s, w), l.1)
 
 -- the children weigh no more than their node together, and each leads to an entry
 pub all_weigh_less : {V : Type 0} (node : NodeView V) (children : Children V) → children ≡ node.1
@@ -69,16 +71,11 @@ end_found node =
     ∙ ap (λ cs. values_of (own node.0) ++ flat_map (λ child. values_at (λ k. false) child.1) cs)
     (filter_none node.1) ∙ append-nil (values_of (own node.0))
 
-end_none : (ps : List (List (List ℕ))) → AllByRecursion (λ p. is_here p ≡ false) ps
-    → filter (meets_filter []) ps ≡ []
-end_none [] h = refl
-end_none ([] ∷ ps) h = absurd (let e : true ≡ false = h.0 in cc)
-end_none ((m ∷ q) ∷ ps) h = end_none ps h.1
-
 -- a filter that has ended enters no node below
 pub end_met : {V : Type 0} (es : Entries V)
     → length (filter (meets_filter []) (prefixes (keys_of es))) ≡ 0
-end_met es = ap length (end_none (prefixes (keys_of es)) (long_prefixes (keys_of es)))
+end_met es = met_agree (meets_filter []) (λ p. false) (λ m k. refl) (keys_of es)
+    ∙ ap length (filter_none (prefixes (keys_of es)))
 
 -- ---- at `#`
 -- a `#` stands last in the rest too
@@ -105,26 +102,22 @@ hash_meets (l ∷ p) = refl
 -- a last `#` finds all values
 pub hash_found : {V : Type 0} (es : Entries V)
     → values_at (matches_below (hash ∷ [])) es ≡ values_of es
-hash_found es =
-    ap values_of (filter_agree (λ e. matches_below (hash ∷ []) e.0) (λ e. true)
-    (λ e. hash_matches e.0) es ∙ filter_each es)
+hash_found es = ap values_of (filter_agree _ (λ e. true) (λ e. hash_matches e.0) es
+    ∙ filter_each es)
 
 -- a last `#` enters all nodes
 pub hash_met : {V : Type 0} (es : Entries V)
     → length (filter (meets_filter (hash ∷ [])) (prefixes (keys_of es)))
     ≡ length (prefixes (keys_of es))
-hash_met es =
-    ap length (filter_agree (meets_filter (hash ∷ [])) (λ p. true) hash_meets
-    (prefixes (keys_of es)) ∙ filter_each (prefixes (keys_of es)))
+hash_met es = ap length (filter_agree _ (λ p. true) hash_meets (prefixes (keys_of es))
+    ∙ filter_each (prefixes (keys_of es)))
 
 -- ---- at another level
 any_and : {A : Type 0} (b : Bool) (g h : A → Bool) (xs : List A)
     → AllByRecursion (λ x. h x ≡ false) xs → list_any (λ x. h x || (b && g x)) xs
     ≡ (b && list_any g xs)
-any_and true g h [] a = refl
-any_and false g h [] a = refl
-any_and true g h (x ∷ xs) a = rw a.0 (ap (λ c. g x || c) (any_and true g h xs a.1))
-any_and false g h (x ∷ xs) a = rw a.0 (any_and false g h xs a.1)
+any_and b g h [] a = grind arith
+any_and b g h (x ∷ xs) a = grind (arith, a.0, any_and b g h xs a.1)
 
 never_last : (f : List ℕ) (gs : List (List (List ℕ))) → bytes_eq f hash ≡ false
     → AllByRecursion (λ g. is_last_hash f g ≡ false) gs
@@ -153,16 +146,15 @@ level_met_step f fs h m p =
 pub exact_step : (f : List ℕ) (fs : List (List ℕ)) → f ≢ hash → f ≢ plus
     → (m : List ℕ) (k : List (List ℕ)) → matches_below (f ∷ fs) (m ∷ k)
     ≡ (bytes_eq f m && matches_below fs k)
-exact_step f fs h q m k = level_step f fs (not_same f hash h) m k
-    ∙ ap (λ b. (b || bytes_eq f m) && matches_below fs k) (not_same f plus q)
+exact_step f fs h q m k = grind (arith, level_step f fs (not_same f hash h) m k, not_same f plus q)
 
 -- where the first level of a filter is no wildcard, the filter meets a nonempty prefix just where
 -- that level is the same and the rest meets the rest
 pub exact_met_step : (f : List ℕ) (fs : List (List ℕ)) → f ≢ hash → f ≢ plus
     → (m : List ℕ) (p : List (List ℕ)) → meets_filter (f ∷ fs) (m ∷ p)
     ≡ (bytes_eq f m && meets_filter fs p)
-exact_met_step f fs h q m p = level_met_step f fs (not_same f hash h) m p
-    ∙ ap (λ b. (b || bytes_eq f m) && meets_filter fs p) (not_same f plus q)
+exact_met_step f fs h q m p =
+    grind (arith, level_met_step f fs (not_same f hash h) m p, not_same f plus q)
 
 -- ---- at `+`
 module _ {V : Type 0} (node : NodeView V) (fs : List (List ℕ)) where

@@ -1,10 +1,9 @@
 -- Whether two levels are the same, and which comes first.
-use Rattle.std.proofs.Common.{true≢false, ◌≡◌, ◌≢◌, ℕ, ◌≤◌, Bool, true, false, cond, List, [], ◌∷◌}
-use Rattle.std.proofs.Common.{length, Ordering, Less, Equal, Greater, nat_cmp, nat_lt, eqb, get_or}
-use Rattle.std.proofs.Common.{arith, refl, sym, ap, ◌∙◌}
+use Rattle.std.proofs.Common.{◌≡◌, ◌≢◌, ℕ, ◌≤◌, true, false, cond, List, [], ◌∷◌, length, Less}
+use Rattle.std.proofs.Common.{Equal, Greater, nat_cmp, nat_lt, eqb, get_or, arith, refl}
 use Rattle.std.specs.Str.{bytes_eq}
 use Rattle.std.specs.Cmp.Lexicographic.{slice_cmp}
-use Rattle.std.specs.Ordering.{is_lt, ordering_then, ordering_reverse}
+use Rattle.std.specs.Ordering.{is_lt, ordering_then}
 use Rattle.std.proofs.lemmas.Cmp.{nat_list_cmp_total, tied_itself}
 use Rattle.std.proofs.lemmas.Map.Lookups.{exact_bytes}
 use Rattle.mq_topic.proofs.ByteLemmas.{text_is, text_itself}
@@ -12,31 +11,19 @@ use Rattle.mq_tree.specs.Below.{hash, plus, is_before, in_order_of}
 
 -- levels that differ fail the test of bytes
 pub not_same : (l m : List ℕ) → l ≢ m → bytes_eq l m ≡ false
-not_same l m n =
-    let go : (b : Bool) → bytes_eq l m ≡ b → b ≡ false =
-    λ b. elim b as (λ b. bytes_eq l m ≡ b → b ≡ false)
-    [ true ↦ λ e. absurd (n (text_is l m e)) | false ↦ λ e. refl ] in
-    go (bytes_eq l m) refl
+not_same l m n = grind (arith, text_is l m)
 
 -- a level fails the test of bytes with one that comes before it
 pub apart_from_less : (l m : List ℕ) → slice_cmp nat_cmp m l ≡ Less → bytes_eq l m ≡ false
-apart_from_less l m e =
-    not_same l m (λ same. absurd
-    (true≢false (sym (ap is_lt e) ∙ ap (λ x. is_lt (slice_cmp nat_cmp m x)) same
-    ∙ ap is_lt (tied_itself nat_list_cmp_total m))))
+apart_from_less l m e = grind (arith, text_is l m, tied_itself nat_list_cmp_total m)
 
 -- a level fails the test of bytes with one that comes after it
 pub apart_from_greater : (l m : List ℕ) → slice_cmp nat_cmp l m ≡ Less → bytes_eq l m ≡ false
-apart_from_greater l m e =
-    not_same l m (λ same. absurd
-    (true≢false (sym (ap is_lt e) ∙ ap (λ x. is_lt (slice_cmp nat_cmp l x)) (sym same)
-    ∙ ap is_lt (tied_itself nat_list_cmp_total l))))
+apart_from_greater l m e = grind (arith, text_is l m, tied_itself nat_list_cmp_total l)
 
 -- levels that fail the test of bytes fail it in the other order
 pub flipped : (l m : List ℕ) → bytes_eq l m ≡ false → bytes_eq m l ≡ false
-flipped l m h =
-    not_same m l (λ same. absurd
-    (true≢false (sym (text_itself l) ∙ ap (bytes_eq l) (sym same) ∙ h)))
+flipped l m h = grind (arith, text_itself l, text_is m l)
 
 not_before_empty : (l : List ℕ) → false ≡ is_before l []
 not_before_empty [] = refl
@@ -59,32 +46,18 @@ before_byte (x ∷ xs) b h =
 -- of a level that does not come before `+`: `#` comes before it, and so does `+` where it is another
 pub hash_first : (l : List ℕ) → is_before l plus ≡ false → slice_cmp nat_cmp hash l ≡ Less
 hash_first l h =
-    let go : (o : Ordering) → slice_cmp nat_cmp l plus ≡ o → slice_cmp nat_cmp hash l ≡ Less =
-    λ o. elim o as (λ o. slice_cmp nat_cmp l plus ≡ o → slice_cmp nat_cmp hash l ≡ Less) [
-      | Less ↦ λ e. absurd (true≢false (sym (ap is_lt e) ∙ h))
-      | Equal ↦ λ e. ap (slice_cmp nat_cmp hash) (exact_bytes l plus e)
-      | Greater ↦ λ e. nat_list_cmp_total.trans hash plus l refl
-          (nat_list_cmp_total.antisymm plus l ∙ ap ordering_reverse e)
-    ] in
-    go (slice_cmp nat_cmp l plus) refl
+    grind (
+      arith,
+      exact_bytes l plus,
+      nat_list_cmp_total.antisymm plus l,
+      nat_list_cmp_total.trans hash plus l refl,
+    )
 
 -- a level that does not come before `+`, and is not `+`, comes after it
 pub plus_first : (l : List ℕ) → is_before l plus ≡ false → l ≢ plus
     → slice_cmp nat_cmp plus l ≡ Less
-plus_first l h n =
-    let go : (o : Ordering) → slice_cmp nat_cmp l plus ≡ o → slice_cmp nat_cmp plus l ≡ Less =
-    λ o. elim o as (λ o. slice_cmp nat_cmp l plus ≡ o → slice_cmp nat_cmp plus l ≡ Less) [
-      | Less ↦ λ e. absurd (true≢false (sym (ap is_lt e) ∙ h))
-      | Equal ↦ λ e. absurd (n (exact_bytes l plus e))
-      | Greater ↦ λ e. nat_list_cmp_total.antisymm plus l ∙ ap ordering_reverse e
-    ] in
-    go (slice_cmp nat_cmp l plus) refl
+plus_first l h n = grind (arith, exact_bytes l plus, nat_list_cmp_total.antisymm plus l)
 
 -- such a level is looked for last
 pub last_in_order : (n : List ℕ) → is_before n plus ≡ false → in_order_of n ≡ hash ∷ plus ∷ n ∷ []
-last_in_order n h =
-    let after : is_before n hash ≡ false =
-    ap is_lt (nat_list_cmp_total.antisymm n hash ∙ ap ordering_reverse (hash_first n h)) in
-    ap (λ b. cond b (n ∷ hash ∷ plus ∷ [])
-    (cond (is_before n plus) (hash ∷ n ∷ plus ∷ []) (hash ∷ plus ∷ n ∷ []))) after
-    ∙ ap (λ b. cond b (hash ∷ n ∷ plus ∷ []) (hash ∷ plus ∷ n ∷ [])) h
+last_in_order n h = grind (arith, hash_first n h, nat_list_cmp_total.antisymm n hash)

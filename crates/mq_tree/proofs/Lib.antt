@@ -5,17 +5,11 @@ mod Counts
 mod SmallTrees
 mod Descents
 mod Edits
-mod Exact
 mod Filters
-mod Firsts
-mod Lent
 mod Levels
 mod Levelwise
 mod Maps
 mod Names
-mod Orders
-mod Picks
-mod RootFilters
 mod Roots
 mod Texts
 mod Turns

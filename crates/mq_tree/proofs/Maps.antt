@@ -1,12 +1,10 @@
 -- The children that a map from levels to nodes holds, under the map's calls.
-use Rattle.std.proofs.Common.{◌≡◌, ℕ, Bool, true, false, cond, List, [], ◌∷◌, map, Some, Less}
-use Rattle.std.proofs.Common.{Equal, Greater, nat_cmp, refl, ap}
+use Rattle.std.proofs.Common.{arith, ◌≡◌, ℕ, Bool, List, [], ◌∷◌, map, Less, nat_cmp, refl, ap}
 use Rattle.std.specs.Global.{Box}
 use Rattle.std.specs.declared.string.String.{String}
 use Rattle.std.specs.String.{string_bytes, string_cmp}
 use Rattle.std.specs.Cmp.Lexicographic.{slice_cmp}
 use Rattle.std.specs.BTreeMap.{is_at, insert_entry}
-use Rattle.std.specs.Ordering.{match_ordering}
 use Rattle.std.specs.Map.{keys_of, values_of, lookup, remove_entry, set_value}
 use Rattle.std.specs.Option.{option_map}
 use Rattle.std.specs.List.{AllByRecursion}
@@ -21,63 +19,27 @@ is_text l = is_at (λ s. slice_cmp nat_cmp l (string_bytes s))
 pub lookup_children : {Y V : Type 0} (l : List ℕ) (nodes : Branches Y V)
     → lookup (is_level l) (children_of nodes) ≡ option_map entries_in (lookup (is_text l) nodes)
 lookup_children l [] = refl
-lookup_children l (node ∷ nodes) =
-    elim (is_text l node.0) as (λ b. cond b (Some (entries_in node.1))
-    (lookup (is_level l) (children_of nodes))
-    ≡ option_map entries_in (cond b (Some node.1) (lookup (is_text l) nodes))) [
-      | true ↦ refl
-      | false ↦ lookup_children l nodes
-    ]
+lookup_children l (node ∷ nodes) = grind (arith, lookup_children l nodes)
 
 -- to set the node at a level in the map is to set the entries of the child there
 pub set_children : {Y V : Type 0} (l : List ℕ) (nodes : Branches Y V) (new : Box (NodeView V))
     → children_of (set_value (is_text l) nodes new)
     ≡ set_value (is_level l) (children_of nodes) (entries_in new)
 set_children l [] new = refl
-set_children l (node ∷ nodes) new =
-    elim (is_text l node.0)
-    as (λ b. children_of (cond b ((node.0, new) ∷ nodes)
-    (node ∷ set_value (is_text l) nodes new))
-    ≡ cond b ((string_bytes node.0, entries_in new) ∷ children_of nodes)
-    ((string_bytes node.0, entries_in node.1)
-    ∷ set_value (is_level l) (children_of nodes) (entries_in new))) [
-      | true ↦ refl
-      | false ↦ ap (λ cs. (string_bytes node.0, entries_in node.1) ∷ cs) (set_children l nodes new)
-    ]
+set_children l (node ∷ nodes) new = grind (arith, set_children l nodes new)
 
 -- to remove the node at a level from the map is to remove the child there
 pub remove_children : {Y V : Type 0} (l : List ℕ) (nodes : Branches Y V)
     → children_of (remove_entry (is_text l) nodes) ≡ remove_entry (is_level l) (children_of nodes)
 remove_children l [] = refl
-remove_children l (node ∷ nodes) =
-    elim (is_text l node.0)
-    as (λ b. children_of (cond b nodes (node ∷ remove_entry (is_text l) nodes))
-    ≡ cond b (children_of nodes) ((string_bytes node.0, entries_in node.1)
-    ∷ remove_entry (is_level l) (children_of nodes))) [
-      | true ↦ refl
-      | false ↦ ap (λ cs. (string_bytes node.0, entries_in node.1) ∷ cs) (remove_children l nodes)
-    ]
+remove_children l (node ∷ nodes) = grind (arith, remove_children l nodes)
 
 -- to put a node into the map is to put its entries among the children, at the level of its text
 pub insert_children : {Y V : Type 0} (text : String Y) (nodes : Branches Y V)
     (new : Box (NodeView V)) → children_of (insert_entry string_cmp nodes text new)
     ≡ insert_entry (slice_cmp nat_cmp) (children_of nodes) (string_bytes text) (entries_in new)
 insert_children text [] new = refl
-insert_children text (node ∷ nodes) new =
-    elim (string_cmp text node.0)
-    as (λ o. children_of (match_ordering o ((text, new) ∷ node ∷ nodes) ((node.0, new) ∷ nodes)
-    (node ∷ insert_entry string_cmp nodes text new))
-    ≡ match_ordering o ((string_bytes text, entries_in new)
-    ∷ (string_bytes node.0, entries_in node.1) ∷ children_of nodes)
-    ((string_bytes node.0, entries_in new) ∷ children_of nodes)
-    ((string_bytes node.0, entries_in node.1)
-    ∷ insert_entry (slice_cmp nat_cmp) (children_of nodes) (string_bytes text)
-    (entries_in new))) [
-      | Less ↦ refl
-      | Equal ↦ refl
-      | Greater ↦ ap (λ cs. (string_bytes node.0, entries_in node.1) ∷ cs)
-          (insert_children text nodes new)
-    ]
+insert_children text (node ∷ nodes) new = grind (arith, insert_children text nodes new)
 
 -- the entries of the children are those of the nodes in the map, in the same order
 pub values_children : {Y V : Type 0} (nodes : Branches Y V)

@@ -1,20 +1,17 @@
 -- A name's levels, taken one by one at a node.
-use Rattle.std.proofs.Common.{true≢false, ◌≡◌, ◌≢◌, ℕ, Bool, true, false, cond, ◌||◌, ◌&&◌, List}
-use Rattle.std.proofs.Common.{[], ◌∷◌, map, Ordering, Less, Equal, Greater, nat_cmp, is_lt, refl}
-use Rattle.std.proofs.Common.{sym, ap, ◌∙◌, subst}
+use Rattle.std.proofs.Common.{ap₂, arith, ◌≡◌, ◌≢◌, ℕ, Bool, true, false, cond, ◌||◌, ◌&&◌, List}
+use Rattle.std.proofs.Common.{[], ◌∷◌, map, Ordering, Less, nat_cmp, is_lt, refl, ap, ◌∙◌}
+use Rattle.mq_tree.specs.Below.{is_before, hash, plus, is_last_hash, matches_below, fronts}
+use Rattle.mq_tree.specs.Below.{meets_name, in_order_of}
 use Rattle.std.specs.Cmp.Lexicographic.{slice_cmp}
-use Rattle.std.specs.Ordering.{ordering_reverse}
 use Rattle.std.specs.Str.{bytes_eq}
 use Rattle.std.specs.List.{list_any, AllByRecursion}
 use Rattle.std.specs.List.Sorted.{IsStrictlySortedBy}
 use Rattle.std.proofs.lemmas.Cmp.{nat_list_cmp_total}
 use Rattle.std.proofs.lemmas.Map.Lookups.{exact_bytes}
-use Rattle.std.proofs.lemmas.Bool.{or_parts}
-use Rattle.std.proofs.Math.Bool.{or-false, or-true}
-use Rattle.mq_topic.proofs.ByteLemmas.{text_is, text_itself}
+use Rattle.std.proofs.Math.Bool.{or-false}
+use Rattle.mq_topic.proofs.ByteLemmas.{text_is, text_itself, text_flip}
 use Rattle.mq_topic.specs.Matching.{level_matches}
-use Rattle.mq_tree.specs.Below.{hash, plus, is_last_hash, matches_below, fronts, meets_name}
-use Rattle.mq_tree.specs.Below.{in_order_of}
 use Rattle.mq_tree.proofs.Blocks.{is_here}
 use Rattle.mq_tree.proofs.Levels.{not_same, flipped}
 
@@ -43,23 +40,8 @@ not_last m (l ∷ k) h = refl
 pub by_hash : (m n : List ℕ) (k : List (List ℕ)) (x : Bool) → IsPlain n
     → (is_last_hash m k || (level_matches m n && x))
     ≡ (may_stand n m && cond (bytes_eq m hash) (is_here k) x)
-by_hash m n k x plain =
-    let other : bytes_eq hash n ≡ false = not_same hash n (λ e. plain.0 (sym e)) in
-    let go : (b : Bool) → bytes_eq m hash ≡ b
-    → (is_last_hash m k || (level_matches m n && x))
-    ≡ ((b || level_matches m n) && cond b (is_here k) x) =
-    λ b. elim b as (λ b. bytes_eq m hash ≡ b → (is_last_hash m k || (level_matches m n && x))
-    ≡ ((b || level_matches m n) && cond b (is_here k) x)) [
-      | true ↦ λ e. subst (λ u. (is_last_hash u k || (level_matches u n && x)) ≡ is_here k)
-          (sym (text_is m hash e)) (last k other)
-      | false ↦ λ e. rw (not_last m k e) refl
-    ] in
-    go (bytes_eq m hash) refl
-  where
-    last : (k : List (List ℕ)) → bytes_eq hash n ≡ false
-        → (is_last_hash hash k || (level_matches hash n && x)) ≡ is_here k
-    last [] e = refl
-    last (l ∷ k) e = rw e refl
+by_hash m n [] x plain = grind (arith, text_is m hash, not_same hash n, plain.0)
+by_hash m n (l ∷ k) x plain = grind (arith, text_is m hash, not_same hash n, plain.0)
 
 -- where the first level of a name is plain, a nonempty key matches the name just where its own
 -- first level may stand there and its rest goes on
@@ -73,13 +55,15 @@ pub any_map : {A B : Type 0} (t : B → Bool) (f : A → B) (xs : List A)
 any_map t f [] = refl
 any_map t f (x ∷ xs) = ap (λ b. t (f x) || b) (any_map t f xs)
 
+pub any_agree : {A : Type 0} (s t : A → Bool) → ((x : A) → s x ≡ t x) → (xs : List A)
+    → list_any s xs ≡ list_any t xs
+any_agree s t same [] = refl
+any_agree s t same (x ∷ xs) = ap₂ (λ a b. a || b) (same x) (any_agree s t same xs)
+
 any_or : {A : Type 0} (a b : Bool) (g : A → Bool) (xs : List A)
     → (a || list_any (λ x. a || (b && g x)) xs) ≡ (a || (b && list_any g xs))
-any_or true b g xs = refl
-any_or false true g [] = refl
-any_or false true g (x ∷ xs) = ap (λ c. g x || c) (any_or false true g xs)
-any_or false false g [] = refl
-any_or false false g (x ∷ xs) = any_or false false g xs
+any_or a b g [] = grind arith
+any_or a b g (x ∷ xs) = grind (arith, any_or a b g xs)
 
 meets_cons : (m : List ℕ) (p : List (List ℕ)) (n : List ℕ) (ns : List (List ℕ))
     → meets_name (n ∷ ns) (m ∷ p) ≡ (is_last_hash m p || (level_matches m n && meets_name ns p))
@@ -95,26 +79,18 @@ meets_step n ns plain m p = meets_cons m p n ns ∙ by_hash m n p (meets_name ns
 
 -- a prefix that ends at its first level has no rest that could fail to meet the name
 pub meets_here : (ns : List (List ℕ)) (m : List ℕ) → meets_on ns m [] ≡ true
-meets_here ns m = elim (bytes_eq m hash) as (λ b. cond b true true ≡ true)
-    [ true ↦ refl | false ↦ refl ]
+meets_here ns m = grind arith
 
 -- ---- at the name's end
 pub end_step : (m : List ℕ) (k : List (List ℕ))
-    → matches_below (m ∷ k) [] ≡ (bytes_eq m hash && is_here k)
-end_step m [] = elim (bytes_eq m hash) as (λ b. b ≡ (b && true)) [ true ↦ refl | false ↦ refl ]
-end_step m (l ∷ k) = elim (bytes_eq m hash) as (λ b. false ≡ (b && false))
-    [ true ↦ refl | false ↦ refl ]
+    → matches_below (m ∷ k) [] ≡ (bytes_eq hash m && is_here k)
+end_step m [] = grind (arith, text_flip hash m)
+end_step m (l ∷ k) = grind arith
 
 -- where the name has ended, a nonempty prefix meets it just where it is a `#` alone
 pub end_meets_step : (m : List ℕ) (p : List (List ℕ))
-    → meets_name [] (m ∷ p) ≡ (bytes_eq m hash && is_here p)
+    → meets_name [] (m ∷ p) ≡ (bytes_eq hash m && is_here p)
 end_meets_step m p = or-false (is_last_hash m p) ∙ end_step m p
-
--- a level that is not in the list of `#` alone is no `#`
-pub only_hash : (m : List ℕ) → list_any (λ t. bytes_eq t m) (hash ∷ []) ≡ false
-    → bytes_eq m hash ≡ false
-only_hash m h =
-    not_same m hash (λ e. absurd (true≢false (sym (ap (λ u. bytes_eq hash u || false) e) ∙ h)))
 
 -- a list of one level is in order
 pub one_sorted : (t : List ℕ) → IsStrictlySortedBy (slice_cmp nat_cmp) (t ∷ [])
@@ -123,10 +99,7 @@ one_sorted t = (tt, tt)
 
 none_of_three : (a b c : Bool) → (a || (b || (c || false))) ≡ false
     → (a ≡ false) × (b ≡ false) × (c ≡ false)
-none_of_three a b c h =
-    let first = or_parts a (b || (c || false)) h in
-    let second = or_parts b (c || false) first.1 in
-    (first.0, second.0, (or_parts c false second.1).0)
+none_of_three a b c h = grind arith
 
 three_sorted : (a b c : List ℕ) → slice_cmp nat_cmp a b ≡ Less → slice_cmp nat_cmp b c ≡ Less
     → IsStrictlySortedBy (slice_cmp nat_cmp) (a ∷ b ∷ c ∷ [])
@@ -135,23 +108,18 @@ three_sorted a b c p q = ((p, (nat_list_cmp_total.trans a b c p q, tt)), ((q, tt
 
 greater_from : (n t : List ℕ) (o : Ordering) → slice_cmp nat_cmp n t ≡ o → n ≢ t → is_lt o ≡ false
     → slice_cmp nat_cmp t n ≡ Less
-greater_from n t Less e apart h = absurd (true≢false h)
-greater_from n t Equal e apart h = absurd (apart (exact_bytes n t e))
-greater_from n t Greater e apart h = nat_list_cmp_total.antisymm t n ∙ ap ordering_reverse e
+greater_from n t o e apart h = grind (arith, nat_list_cmp_total.antisymm t n, exact_bytes n t)
 
 less_from : (n t : List ℕ) (o : Ordering) → slice_cmp nat_cmp n t ≡ o → is_lt o ≡ true
     → slice_cmp nat_cmp n t ≡ Less
-less_from n t Less e h = e
-less_from n t Equal e h = absurd (true≢false (sym h))
-less_from n t Greater e h = absurd (true≢false (sym h))
+less_from n t o e h = grind arith
 
 of_n : (n : List ℕ) → may_stand n n ≡ true
-of_n n = ap (λ b. bytes_eq n hash || (bytes_eq n plus || b)) (text_itself n)
-    ∙ ap (λ b. bytes_eq n hash || b) (or-true (bytes_eq n plus)) ∙ or-true (bytes_eq n hash)
+of_n n = grind (arith, text_itself n)
 
 quiet_by : (n m : List ℕ) → bytes_eq hash m ≡ false → bytes_eq plus m ≡ false → bytes_eq n m ≡ false
     → may_stand n m ≡ false
-quiet_by n m h p q = rw (flipped hash m h, flipped plus m p, flipped n m q) refl
+quiet_by n m h p q = grind (arith, flipped hash m h, flipped plus m p, flipped n m q)
 
 -- these levels, and no others
 pub record AreAll (n : List ℕ) (ts : List (List ℕ)) : Type 0 where
@@ -162,20 +130,15 @@ pub record AreAll (n : List ℕ) (ts : List (List ℕ)) : Type 0 where
 -- the levels that may stand at a plain level n are `#`, `+` and n, taken in their order
 pub in_order_all : (n : List ℕ) → IsPlain n → AreAll n (in_order_of n)
 in_order_all n p =
-    let go : (b c : Bool) → is_lt (slice_cmp nat_cmp n hash) ≡ b
-    → is_lt (slice_cmp nat_cmp n plus) ≡ c
+    (elim (is_before n hash) as (λ b. is_before n hash ≡ b
     → AreAll n (cond b (n ∷ hash ∷ plus ∷ [])
-    (cond c (hash ∷ n ∷ plus ∷ []) (hash ∷ plus ∷ n ∷ []))) =
-    λ b c. elim b as (λ b. is_lt (slice_cmp nat_cmp n hash) ≡ b
-    → is_lt (slice_cmp nat_cmp n plus) ≡ c
-    → AreAll n (cond b (n ∷ hash ∷ plus ∷ [])
-    (cond c (hash ∷ n ∷ plus ∷ []) (hash ∷ plus ∷ n ∷ [])))) [
-      | true ↦ λ e f. record {
+    (cond (is_before n plus) (hash ∷ n ∷ plus ∷ []) (hash ∷ plus ∷ n ∷ [])))) [
+      | true ↦ λ e. record {
         sorted = three_sorted n hash plus (less_from n hash _ refl e) refl;
         stand = (of_n n, (refl, (refl, tt)));
         others = λ m any. let none = none_of_three _ _ _ any in quiet_by n m none.1 none.2 none.0;
       }
-      | false ↦ λ e. elim c as (λ c. is_lt (slice_cmp nat_cmp n plus) ≡ c
+      | false ↦ λ e. (elim (is_before n plus) as (λ c. is_before n plus ≡ c
           → AreAll n (cond c (hash ∷ n ∷ plus ∷ []) (hash ∷ plus ∷ n ∷ []))) [
             | true ↦ λ f. record {
               sorted = three_sorted hash n plus (greater_from n hash _ refl p.0 e)
@@ -190,6 +153,5 @@ in_order_all n p =
               others = λ m any. let none = none_of_three _ _ _ any in
                   quiet_by n m none.0 none.1 none.2;
             }
-          ]
-    ] in
-    go _ _ refl refl
+          ]) refl
+    ]) refl

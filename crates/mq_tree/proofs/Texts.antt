@@ -1,6 +1,6 @@
 -- What the levels of a valid text look like.
-use Rattle.std.proofs.Common.{true≢false, ◌≡◌, ℕ, ◌-◌, ◌&&◌, true, not, List, [], ◌∷◌}
-use Rattle.std.proofs.Common.{length, take, sym, ap, ◌∙◌, arith, suc}
+use Rattle.std.proofs.Common.{◌≡◌, ℕ, ◌-◌, ◌&&◌, true, not, List, [], ◌∷◌, length, take, sym, ap}
+use Rattle.std.proofs.Common.{◌∙◌, arith, suc}
 use Rattle.std.specs.Prelude.{nat_le}
 use Rattle.std.specs.List.{list_all}
 use Rattle.std.proofs.lemmas.Bool.{and_parts, not-true}
@@ -14,29 +14,24 @@ are_plain : (ls : List (List ℕ)) → list_all (λ l. not (contains_byte 43 l))
     → list_all (λ l. not (contains_byte 35 l)) ls ≡ true → ArePlain ls
 are_plain [] p h = tt
 are_plain (l ∷ ls) p h =
-    let no_plus = not-true (contains_byte 43 l)
-    (and_parts (not (contains_byte 43 l)) (list_all (λ l. not (contains_byte 43 l)) ls) p).0 in
-    let no_hash = not-true (contains_byte 35 l)
-    (and_parts (not (contains_byte 35 l)) (list_all (λ l. not (contains_byte 35 l)) ls) h).0 in (
+    let a = and_parts (not (contains_byte 43 l)) (list_all (λ l. not (contains_byte 43 l)) ls) p in
+    let b = and_parts (not (contains_byte 35 l)) (list_all (λ l. not (contains_byte 35 l)) ls) h
+    in (
       (
-        λ e. absurd (true≢false (sym (ap (contains_byte 35) e) ∙ no_hash)),
-        λ e. absurd (true≢false (sym (ap (contains_byte 43) e) ∙ no_plus)),
+        λ e. grind (arith, ap (contains_byte 35) e, b.0),
+        λ e. grind (arith, ap (contains_byte 43) e, a.0),
       ),
-      are_plain ls (and_parts (not (contains_byte 43 l))
-          (list_all (λ l. not (contains_byte 43 l)) ls) p).1
-          (and_parts (not (contains_byte 35 l)) (list_all (λ l. not (contains_byte 35 l)) ls) h).1,
+      are_plain ls a.1 b.1,
     )
 
 -- a name's levels are no wildcards
 pub name_is_plain : (text : List ℕ) → is_name text ≡ true → ArePlain (levels text)
 name_is_plain text h =
-    let plain = (and_parts (is_text text) (is_plain text)
-    (and_parts (is_text text && is_plain text) (nat_le (length (levels text)) 200) h).0).1 in
-    are_plain (levels text)
-    (levels_lack 43 text (not-true (contains_byte 43 text)
-    (and_parts (not (contains_byte 43 text)) (not (contains_byte 35 text)) plain).0))
-    (levels_lack 35 text (not-true (contains_byte 35 text)
-    (and_parts (not (contains_byte 43 text)) (not (contains_byte 35 text)) plain).1))
+    let fit = and_parts (is_text text && is_plain text) (nat_le (length (levels text)) 200) h in
+    let plain = (and_parts (is_text text) (is_plain text) fit.0).1 in
+    let both = and_parts (not (contains_byte 43 text)) (not (contains_byte 35 text)) plain in
+    are_plain (levels text) (levels_lack 43 text (not-true (contains_byte 43 text) both.0))
+    (levels_lack 35 text (not-true (contains_byte 35 text) both.1))
 
 hash_last : (ls : List (List ℕ)) → list_all (λ l. not (contains_byte 35 l)) (parents ls) ≡ true
     → HashLast ls
@@ -44,15 +39,10 @@ hash_last [] h = tt
 hash_last (l ∷ []) h = tt
 hash_last (l ∷ m ∷ ls) h =
     let more : length (l ∷ m ∷ ls) - 1 ≡ suc (length (m ∷ ls) - 1) = omega arith in
-    let k = ap (λ n. list_all (λ l. not (contains_byte 35 l)) (take n (l ∷ m ∷ ls))) (sym more)
-    ∙ h in
-    let none = not-true (contains_byte 35 l)
-    (and_parts (not (contains_byte 35 l))
-    (list_all (λ l. not (contains_byte 35 l)) (parents (m ∷ ls))) k).0 in (
-      λ e. absurd (true≢false (sym (ap (contains_byte 35) e) ∙ none)),
-      hash_last (m ∷ ls) (and_parts (not (contains_byte 35 l))
-          (list_all (λ l. not (contains_byte 35 l)) (parents (m ∷ ls))) k).1,
-    )
+    let a = and_parts (not (contains_byte 35 l))
+    (list_all (λ l. not (contains_byte 35 l)) (parents (m ∷ ls)))
+    (ap (λ n. list_all (λ l. not (contains_byte 35 l)) (take n (l ∷ m ∷ ls))) (sym more) ∙ h) in
+    (λ e. grind (arith, ap (contains_byte 35) e, a.0), hash_last (m ∷ ls) a.1)
 
 -- a `#` stands last in a filter
 pub filter_hash_last : (text : List ℕ) → is_filter text ≡ true → HashLast (levels text)

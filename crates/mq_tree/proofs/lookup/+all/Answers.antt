@@ -4,36 +4,26 @@ use Rattle.std.specs.Map.{keys_of, values_of}
 use Rattle.std.specs.List.{flat_map}
 use Rattle.std.proofs.lemmas.Map.Iter.{rest_more, rest_all}
 use Rattle.mq_tree.specs.Below.{tally}
-use Rattle.mq_tree.specs.Nodes.{own, entries_of, weight}
+use Rattle.mq_tree.specs.Nodes.{own, weight}
 use Rattle.mq_topic.specs.Prefixes.{prefixes}
 use Rattle.mq_tree.proofs.Turns.{found_turn}
-use Rattle.mq_tree.proofs.Filters.{all_values, all_met, first_weighs_less}
+use Rattle.mq_tree.proofs.Filters.{all_values, all_met, next_weighs_less}
 use Rattle.mq_tree.proofs.lookup.+all.Goals as goal
 
 pub all-requires : goal.all-requires
 all-requires g t c =
     let e = rest_more (λ x. x) _ _ _ c.in-Some.child c.in-Some.is c.next.ensures.steps in
-    let live = rw e at c.loop-child.invariant.live in
-    let low = rw e at c.loop-child.invariant.low in
-    let less = first_weighs_less c.in-Some.child c.next.new.self
-    (weight (entries_of c.args.node.now)) live low in
+    let less = next_weighs_less _ _ _ _ e c.loop-child.invariant.live c.loop-child.invariant.low in
     λ κs x. (omega (arith, less.0, ap weight c.enter.ensures.entries), x)
 
 pub loop-child-preserved : goal.loop-child-preserved
 loop-child-preserved g t c =
     let e = rest_more (λ x. x) _ _ _ c.in-Some.child c.in-Some.is c.next.ensures.steps in
-    let live = rw e at c.loop-child.invariant.live in
-    let low = rw e at c.loop-child.invariant.low in
-    let less = first_weighs_less c.in-Some.child c.next.new.self
-    (weight (entries_of c.args.node.now)) live low in
+    let less = next_weighs_less _ _ _ _ e c.loop-child.invariant.live c.loop-child.invariant.low in
     record {
       found = found_turn _ _ (values_of c.in-Some.child.1) _ _
-          (c.in_ok-all.ensures.found
-          ∙ ap (λ es. map (λ (x : Bor g.row.V.Denot). x.now) c.loop-child.found.items
-          ++ values_of es) c.enter.ensures.entries)
-          (ap (λ cs. map (λ (x : Bor g.row.V.Denot). x.now) c.loop-child.found.items
-          ++ flat_map (λ child. values_of child.1) cs) (sym e)
-          ∙ c.loop-child.invariant.found);
+          (rw c.enter.ensures.entries at c.in_ok-all.ensures.found)
+          (rw e at c.loop-child.invariant.found);
       count = omega (
         arith,
         c.in_ok-all.ensures.count,
@@ -43,7 +33,7 @@ loop-child-preserved g t c =
         c.loop-child.invariant.count,
       );
       low = less.1;
-      live = live.1;
+      live = less.2;
     }
 
 pub returns-clause-found : goal.returns-clause-found

@@ -2,7 +2,7 @@ use Rattle.std.proofs.Common.{◌≡◌, ◌+◌, ◌++◌, map, length, drop}
 use Rattle.std.specs.List.{flat_map}
 use Rattle.mq_topic.specs.Levels.{levels_left}
 use Rattle.mq_tree.specs.Below.{ArePlain, tally}
-use Rattle.mq_tree.proofs.Picks.{gather, one}
+use Rattle.mq_tree.proofs.Children.{gather, one}
 use Rattle.mq_tree.proofs.Turns.{found_at, met_at}
 use Rattle.mq_tree.proofs.lookup.+below_by_name.Given as goal
 

@@ -1,7 +1,6 @@
-use Rattle.std.proofs.Common.{◌≡◌, ℕ, false, not, cond, List, ◌∷◌, ◌++◌, map, length, Bor}
-use Rattle.std.proofs.Common.{sym, ap, ◌∙◌, arith}
+use Rattle.std.proofs.Common.{◌≡◌, ℕ, false, not, cond, List, ◌∷◌, length, sym, ap, ◌∙◌, arith}
 use Rattle.std.specs.Map.{keys_of}
-use Rattle.std.specs.List.{filter, flat_map}
+use Rattle.std.specs.List.{filter}
 use Rattle.std.proofs.lemmas.Map.Iter.{rest_more}
 use Rattle.mq_topic.specs.Levels.{levels_left}
 use Rattle.mq_tree.specs.Below.{begins_with_dollar, plain_children, matches_below, meets_filter}
@@ -28,12 +27,8 @@ loop-child-preserved g c =
     shown in
     record {
       found = found_turn _ _ (values_at (matches_below rest) child.1) _ _
-          (c.in_ok-below_by_filter.ensures.found
-          ∙ ap (λ es. map (λ (x : Bor g.row.V.Denot). x.now) c.loop-child.found.items
-          ++ values_at (matches_below rest) es) c.enter.ensures.entries)
-          (ap (λ cs. map (λ (x : Bor g.row.V.Denot). x.now) c.loop-child.found.items
-          ++ flat_map (λ child. values_at (matches_below rest) child.1) cs) (sym e)
-          ∙ c.loop-child.invariant.found);
+          (rw c.enter.ensures.entries at c.in_ok-below_by_filter.ensures.found)
+          (rw e at c.loop-child.invariant.found);
       count = omega (
         arith,
         c.in_ok-below_by_filter.ensures.count,

@@ -1,6 +1,6 @@
 use Rattle.std.proofs.Common.{rules}
 use Rattle.mq_tree.specs.Nodes.{entries_of}
-use Rattle.mq_tree.proofs.Orders.{put_at_most}
+use Rattle.mq_tree.proofs.Changes.{put_at_most}
 use Rattle.mq_tree.proofs.tree.LevelTree.get_mut.Goals as goal
 
 pub invariant_of-self-lent : goal.invariant_of-self-lent

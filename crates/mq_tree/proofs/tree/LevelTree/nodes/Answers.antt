@@ -1,7 +1,6 @@
 use Rattle.std.proofs.Common.{length, ap, arith}
 use Rattle.std.specs.Map.{keys_of}
-use Rattle.mq_topic.specs.Prefixes.{capped}
-use Rattle.mq_topic.specs.Prefixes.{prefixes}
+use Rattle.mq_topic.specs.Prefixes.{capped, prefixes}
 use Rattle.mq_tree.proofs.tree.LevelTree.nodes.Goals as goal
 
 pub returns : goal.returns

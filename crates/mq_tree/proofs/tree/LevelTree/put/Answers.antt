@@ -1,6 +1,6 @@
 use Rattle.mq_tree.specs.Nodes.{entries_of}
 use Rattle.mq_tree.specs.Entries.{AreInOrder}
-use Rattle.mq_tree.proofs.Orders.{insert_in_order, from_result}
+use Rattle.mq_tree.proofs.Changes.{insert_in_order, from_result}
 use Rattle.mq_tree.proofs.tree.LevelTree.put.Goals as goal
 
 pub invariant_of-self : goal.invariant_of-self

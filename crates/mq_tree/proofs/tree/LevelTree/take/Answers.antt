@@ -1,4 +1,4 @@
-use Rattle.mq_tree.proofs.Orders.{remove_in_order}
+use Rattle.mq_tree.proofs.Changes.{remove_in_order}
 use Rattle.mq_tree.proofs.tree.LevelTree.take.Goals as goal
 
 pub invariant_of-self : goal.invariant_of-self

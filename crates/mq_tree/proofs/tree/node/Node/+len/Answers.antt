@@ -1,5 +1,5 @@
-use Rattle.std.proofs.Common.{◌≡◌, ◌+◌, [], length, Option, Some, None, Bor, is_some, refl, ap}
-use Rattle.std.proofs.Common.{◌∙◌, arith}
+use Rattle.std.proofs.Common.{◌≡◌, ◌+◌, [], length, Option, Some, None, Bor, is_some, refl, ap, ◌∙◌}
+use Rattle.std.proofs.Common.{arith}
 use mir.Val.{bool_byte}
 use Rattle.std.specs.List.{sum_by}
 use Rattle.std.specs.Map.{values_of}
@@ -7,9 +7,9 @@ use Rattle.std.specs.Option.{option_copied}
 use Rattle.std.proofs.lemmas.List.Sums.{sum_by-cons}
 use Rattle.std.proofs.lemmas.Map.Iter.{rest_more, rest_all}
 use Rattle.mq_topic.specs.Prefixes.{capped}
-use Rattle.mq_tree.specs.Nodes.{entries_of, weight}
+use Rattle.mq_tree.specs.Nodes.{weight}
 use Rattle.mq_tree.proofs.Counts.{length-own}
-use Rattle.mq_tree.proofs.Filters.{all_weigh_less, first_weighs_less}
+use Rattle.mq_tree.proofs.Filters.{all_weigh_less, next_weighs_less}
 use Rattle.mq_tree.proofs.tree.node.Node.+len.Goals as goal
 
 -- a copy is there just where the reference is
@@ -36,19 +36,13 @@ loop-child-init g t c =
 pub len-requires : goal.len-requires
 len-requires g t c =
     let e = rest_more (λ x. x) _ _ _ c.in-Some.child c.in-Some.is c.next.ensures.steps in
-    let live = rw e at c.loop-child.invariant.live in
-    let low = rw e at c.loop-child.invariant.low in
-    let less = first_weighs_less c.in-Some.child c.next.new.self
-    (weight (entries_of c.args.self.now)) live low in
+    let less = next_weighs_less _ _ _ _ e c.loop-child.invariant.live c.loop-child.invariant.low in
     λ κs x. (omega (arith, less.0, ap weight c.node.ensures), x)
 
 pub loop-child-preserved : goal.loop-child-preserved
 loop-child-preserved g t c =
     let e = rest_more (λ x. x) _ _ _ c.in-Some.child c.in-Some.is c.next.ensures.steps in
-    let live = rw e at c.loop-child.invariant.live in
-    let low = rw e at c.loop-child.invariant.low in
-    let less = first_weighs_less c.in-Some.child c.next.new.self
-    (weight (entries_of c.args.self.now)) live low in
+    let less = next_weighs_less _ _ _ _ e c.loop-child.invariant.live c.loop-child.invariant.low in
     let count = rw e at c.loop-child.invariant.count in
     let fits = c.loop-child.invariant.fits in
     record {
@@ -60,7 +54,7 @@ loop-child-preserved g t c =
       );
       fits = omega arith;
       low = less.1;
-      live = live.1;
+      live = less.2;
     }
 
 pub returns : goal.returns

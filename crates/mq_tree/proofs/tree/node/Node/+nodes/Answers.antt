@@ -2,9 +2,9 @@ use Rattle.std.proofs.Common.{◌≡◌, [], length, ap, ◌∙◌, arith}
 use Rattle.std.specs.Map.{keys_of}
 use Rattle.std.proofs.lemmas.Map.Iter.{rest_more, rest_all}
 use Rattle.mq_tree.specs.Below.{tally}
-use Rattle.mq_tree.specs.Nodes.{entries_of, weight}
+use Rattle.mq_tree.specs.Nodes.{weight}
 use Rattle.mq_topic.specs.Prefixes.{prefixes}
-use Rattle.mq_tree.proofs.Filters.{all_met, all_weigh_less, first_weighs_less}
+use Rattle.mq_tree.proofs.Filters.{all_met, all_weigh_less, next_weighs_less}
 use Rattle.mq_tree.proofs.tree.node.Node.+nodes.Goals as goal
 
 pub loop-child-init : goal.loop-child-init
@@ -27,19 +27,13 @@ loop-child-init g t c =
 pub nodes-requires : goal.nodes-requires
 nodes-requires g t c =
     let e = rest_more (λ x. x) _ _ _ c.in-Some.child c.in-Some.is c.next.ensures.steps in
-    let live = rw e at c.loop-child.invariant.live in
-    let low = rw e at c.loop-child.invariant.low in
-    let less = first_weighs_less c.in-Some.child c.next.new.self
-    (weight (entries_of c.args.self.now)) live low in
+    let less = next_weighs_less _ _ _ _ e c.loop-child.invariant.live c.loop-child.invariant.low in
     λ κs x. (omega (arith, less.0, ap weight c.node.ensures), x)
 
 pub loop-child-preserved : goal.loop-child-preserved
 loop-child-preserved g t c =
     let e = rest_more (λ x. x) _ _ _ c.in-Some.child c.in-Some.is c.next.ensures.steps in
-    let live = rw e at c.loop-child.invariant.live in
-    let low = rw e at c.loop-child.invariant.low in
-    let less = first_weighs_less c.in-Some.child c.next.new.self
-    (weight (entries_of c.args.self.now)) live low in
+    let less = next_weighs_less _ _ _ _ e c.loop-child.invariant.live c.loop-child.invariant.low in
     let count = rw e at c.loop-child.invariant.count in
     let fits = c.loop-child.invariant.fits in
     record {
@@ -50,7 +44,7 @@ loop-child-preserved g t c =
       );
       fits = omega arith;
       low = less.1;
-      live = live.1;
+      live = less.2;
     }
 
 pub returns : goal.returns

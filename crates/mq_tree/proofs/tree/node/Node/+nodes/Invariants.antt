@@ -1,9 +1,8 @@
 use Rattle.std.proofs.Common.{◌≡◌, ◌+◌, ◌≤◌, length}
 use Rattle.std.specs.Map.{keys_of}
 use Rattle.mq_tree.specs.Below.{tally}
-use Rattle.mq_topic.specs.Prefixes.{capped}
+use Rattle.mq_topic.specs.Prefixes.{capped, prefixes}
 use Rattle.mq_tree.specs.Nodes.{entries_of, below, weight, NoneDead}
-use Rattle.mq_topic.specs.Prefixes.{prefixes}
 use Rattle.mq_tree.proofs.tree.node.Node.+nodes.Given as goal
 
 abbrev pub decreases-nodes : goal.decreases-nodes

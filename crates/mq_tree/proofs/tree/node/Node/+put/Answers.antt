@@ -6,7 +6,7 @@ use Rattle.mq_tree.specs.Nodes.{own, below, entries_in, children_of}
 use Rattle.mq_tree.proofs.Edits.{insert-here}
 use Rattle.mq_tree.proofs.Children.{lookup-here}
 use Rattle.mq_tree.proofs.Changes.{live_put, on_err}
-use Rattle.mq_tree.proofs.Descents.{At, found_step, put_kept, put_same, put_branch, some_child}
+use Rattle.mq_tree.proofs.Descents.{at_node, found_step, put_kept, put_same, put_branch, some_child}
 use Rattle.mq_tree.proofs.Descents.{children_set, children_hung}
 use Rattle.mq_tree.proofs.tree.node.Node.+put.Goals as goal
 
@@ -24,126 +24,62 @@ returns-in_default-clause-ok g t c =
 
 pub invariant_of-self-in-Some-get_mut : goal.invariant_of-self-in-Some-get_mut
 invariant_of-self-in-Some-get_mut g t c =
-    let at : At (levels_left c.args.key) c.split_first.result.0.now
-    (levels_left c.split_first.result.1) c.self.inside.value c.self.inside.children.entries
-    c.args.self.now = record {
-      key_is = ap levels_left c.in-Some.is ∙ c.split_first.ensures;
-      are = c.self.invariant;
-      is = c.self.view_is;
-    } in
+    let at = at_node c.self.inside.children.entries (ap levels_left c.in-Some.is
+    ∙ c.split_first.ensures) c.self.invariant c.self.view_is in
     let child = c.in-Some-get_mut.child.now in
     let new = with_value child c.put.new.self in
     let w = c.get_mut.follows.holds new in
     let found = rw c.in-Some-get_mut.is at c.get_mut.ensures.value in
     let same = c.deref_mut.ensures.value in
-    children_set _ _ _ _ _ _ at new _
+    children_set at new _
     (live_put c.put.result (entries_in child) (entries_in new) _ _
-    (some_child _ _ _ _ _ _ at child found) (rw same at c.put.ensures.ok)
+    (some_child at child found) (rw same at c.put.ensures.ok)
     (rw same at c.put.ensures.err)) w.0 w.4
 
-pub returns-in-Some-get_mut-clause-older : goal.returns-in-Some-get_mut-clause-older
-returns-in-Some-get_mut-clause-older g t c =
-    let at : At (levels_left c.args.key) c.split_first.result.0.now
-    (levels_left c.split_first.result.1) c.self.inside.value c.self.inside.children.entries
-    c.args.self.now = record {
-      key_is = ap levels_left c.in-Some.is ∙ c.split_first.ensures;
-      are = c.self.invariant;
-      is = c.self.view_is;
-    } in
-    rw (found_step _ _ _ _ _ _ at (Some c.in-Some-get_mut.child.now)
-    (rw c.in-Some-get_mut.is at c.get_mut.ensures.value))
-    (rw c.deref_mut.ensures.value at c.put.ensures.older)
-
-pub returns-in-Some-get_mut-clause-ok : goal.returns-in-Some-get_mut-clause-ok
-returns-in-Some-get_mut-clause-ok g t c =
-    let at : At (levels_left c.args.key) c.split_first.result.0.now
-    (levels_left c.split_first.result.1) c.self.inside.value c.self.inside.children.entries
-    c.args.self.now = record {
-      key_is = ap levels_left c.in-Some.is ∙ c.split_first.ensures;
-      are = c.self.invariant;
-      is = c.self.view_is;
-    } in
+pub returns-in-Some-get_mut : goal.returns-in-Some-get_mut
+returns-in-Some-get_mut g t c =
+    let at = at_node c.self.inside.children.entries (ap levels_left c.in-Some.is
+    ∙ c.split_first.ensures) c.self.invariant c.self.view_is in
     let child = c.in-Some-get_mut.child.now in
     let new = with_value child c.put.new.self in
-    on_ok_weaker c.put.result
-    (λ e. put_kept _ _ _ _ _ _ at child new c.args.value _
-    (rw c.in-Some-get_mut.is at c.get_mut.ensures.value) e (c.get_mut.follows.holds new).0)
-    (rw c.deref_mut.ensures.value at c.put.ensures.ok)
-
-pub returns-in-Some-get_mut-clause-err : goal.returns-in-Some-get_mut-clause-err
-returns-in-Some-get_mut-clause-err g t c =
-    let at : At (levels_left c.args.key) c.split_first.result.0.now
-    (levels_left c.split_first.result.1) c.self.inside.value c.self.inside.children.entries
-    c.args.self.now = record {
-      key_is = ap levels_left c.in-Some.is ∙ c.split_first.ensures;
-      are = c.self.invariant;
-      is = c.self.view_is;
-    } in
-    let child = c.in-Some-get_mut.child.now in
-    let new = with_value child c.put.new.self in
-    on_err_weaker c.put.result
-    (λ e. put_same _ _ _ _ _ _ at child new _
-    (rw c.in-Some-get_mut.is at c.get_mut.ensures.value) e (c.get_mut.follows.holds new).0)
-    (rw c.deref_mut.ensures.value at c.put.ensures.err)
-
-pub returns-in-Some-get_mut-clause-absent : goal.returns-in-Some-get_mut-clause-absent
-returns-in-Some-get_mut-clause-absent g t c =
-    let at : At (levels_left c.args.key) c.split_first.result.0.now
-    (levels_left c.split_first.result.1) c.self.inside.value c.self.inside.children.entries
-    c.args.self.now = record {
-      key_is = ap levels_left c.in-Some.is ∙ c.split_first.ensures;
-      are = c.self.invariant;
-      is = c.self.view_is;
-    } in
-    rw (found_step _ _ _ _ _ _ at (Some c.in-Some-get_mut.child.now)
-    (rw c.in-Some-get_mut.is at c.get_mut.ensures.value))
-    (rw c.deref_mut.ensures.value at c.put.ensures.absent)
+    let found = rw c.in-Some-get_mut.is at c.get_mut.ensures.value in
+    let same = c.deref_mut.ensures.value in
+    let there = found_step at (Some child) found in
+    let set = (c.get_mut.follows.holds new).0 in
+    record {
+      older = rw there (rw same at c.put.ensures.older);
+      ok = on_ok_weaker c.put.result (λ e. put_kept at child new c.args.value _ found e set)
+          (rw same at c.put.ensures.ok);
+      err = on_err_weaker c.put.result (λ e. put_same at child new _ found e set)
+          (rw same at c.put.ensures.err);
+      absent = rw there (rw same at c.put.ensures.absent);
+    }
 
 pub returns-in_err-grow-clause-absent : goal.returns-in_err-grow-clause-absent
 returns-in_err-grow-clause-absent g t c =
-    let at : At (levels_left c.args.key) c.split_first.result.0.now
-    (levels_left c.split_first.result.1) c.self.inside.value c.self.inside.children.entries
-    c.args.self.now = record {
-      key_is = ap levels_left c.in-Some.is ∙ c.split_first.ensures;
-      are = c.self.invariant;
-      is = c.self.view_is;
-    } in
+    let at = at_node c.self.inside.children.entries (ap levels_left c.in-Some.is
+    ∙ c.split_first.ensures) c.self.invariant c.self.view_is in
     on_err c.from_residual.result
-    (found_step _ _ _ _ _ _ at None (rw c.in_default-get_mut.is at c.get_mut.ensures.value))
+    (found_step at None (rw c.in_default-get_mut.is at c.get_mut.ensures.value))
 
 pub invariant_of-self-2 : goal.invariant_of-self-2
 invariant_of-self-2 g t c =
-    let at : At (levels_left c.args.key) c.split_first.result.0.now
-    (levels_left c.split_first.result.1) c.self.inside.value c.self.inside.children.entries
-    c.args.self.now = record {
-      key_is = ap levels_left c.in-Some.is ∙ c.split_first.ensures;
-      are = c.self.invariant;
-      is = c.self.view_is;
-    } in
+    let at = at_node c.self.inside.children.entries (ap levels_left c.in-Some.is
+    ∙ c.split_first.ensures) c.self.invariant c.self.view_is in
     let old = ap (λ m. m.entries) c.get_mut.follows.holds-at-none in
-    children_hung _ _ _ _ _ _ at c.args.value _ (rw old at c.in_ok-grow.ensures.ok)
+    children_hung at c.args.value _ (rw old at c.in_ok-grow.ensures.ok)
     c.in_ok-grow.ensures.ordered
 
 pub returns-clause-older : goal.returns-clause-older
 returns-clause-older g t c =
-    let at : At (levels_left c.args.key) c.split_first.result.0.now
-    (levels_left c.split_first.result.1) c.self.inside.value c.self.inside.children.entries
-    c.args.self.now = record {
-      key_is = ap levels_left c.in-Some.is ∙ c.split_first.ensures;
-      are = c.self.invariant;
-      is = c.self.view_is;
-    } in
-    sym (found_step _ _ _ _ _ _ at None (rw c.in_default-get_mut.is at c.get_mut.ensures.value))
+    let at = at_node c.self.inside.children.entries (ap levels_left c.in-Some.is
+    ∙ c.split_first.ensures) c.self.invariant c.self.view_is in
+    sym (found_step at None (rw c.in_default-get_mut.is at c.get_mut.ensures.value))
 
 pub returns-clause-ok : goal.returns-clause-ok
 returns-clause-ok g t c =
-    let at : At (levels_left c.args.key) c.split_first.result.0.now
-    (levels_left c.split_first.result.1) c.self.inside.value c.self.inside.children.entries
-    c.args.self.now = record {
-      key_is = ap levels_left c.in-Some.is ∙ c.split_first.ensures;
-      are = c.self.invariant;
-      is = c.self.view_is;
-    } in
+    let at = at_node c.self.inside.children.entries (ap levels_left c.in-Some.is
+    ∙ c.split_first.ensures) c.self.invariant c.self.view_is in
     let old = ap (λ m. m.entries) c.get_mut.follows.holds-at-none in
-    put_branch _ _ _ _ _ _ at c.args.value _ (rw c.in_default-get_mut.is at c.get_mut.ensures.value)
+    put_branch at c.args.value _ (rw c.in_default-get_mut.is at c.get_mut.ensures.value)
     (rw old at c.in_ok-grow.ensures.ok)

@@ -5,8 +5,8 @@ use Rattle.mq_tree.specs.Nodes.{own, below, children_of}
 use Rattle.mq_tree.proofs.Edits.{remove-here}
 use Rattle.mq_tree.proofs.Children.{lookup-here}
 use Rattle.mq_tree.proofs.Changes.{nil_from_empty, some_from_not_empty}
-use Rattle.mq_tree.proofs.Descents.{At, found_step, take_kept, take_cut, take_none, children_set}
-use Rattle.mq_tree.proofs.Descents.{children_cut}
+use Rattle.mq_tree.proofs.Descents.{at_node, found_step, take_kept, take_cut, take_none}
+use Rattle.mq_tree.proofs.Descents.{children_set, children_cut}
 use Rattle.mq_tree.proofs.tree.node.Node.+take.Goals as goal
 
 pub returns-in_default-clause-value : goal.returns-in_default-clause-value
@@ -20,111 +20,62 @@ returns-in_default-clause-rest g t c =
     rw (c.in_default.is, ← c.self.view_is) (ap (λ v. own v ++ below children) c.take.ensures.after
     ∙ sym (remove-here c.self.inside.value children))
 
-pub returns-in_default-get_mut-clause-value : goal.returns-in_default-get_mut-clause-value
-returns-in_default-get_mut-clause-value g t c =
-    let at : At (levels_left c.args.key) c.split_first.result.0.now
-    (levels_left c.split_first.result.1) c.self.inside.value c.self.inside.children.entries
-    c.args.self.now = record {
-      key_is = ap levels_left c.in-Some.is ∙ c.split_first.ensures;
-      are = c.self.invariant;
-      is = c.self.view_is;
-    } in
-    sym (found_step _ _ _ _ _ _ at None (rw c.in_default-get_mut.is at c.get_mut.ensures.value))
-
-pub returns-in_default-get_mut-clause-rest : goal.returns-in_default-get_mut-clause-rest
-returns-in_default-get_mut-clause-rest g t c =
-    let at : At (levels_left c.args.key) c.split_first.result.0.now
-    (levels_left c.split_first.result.1) c.self.inside.value c.self.inside.children.entries
-    c.args.self.now = record {
-      key_is = ap levels_left c.in-Some.is ∙ c.split_first.ensures;
-      are = c.self.invariant;
-      is = c.self.view_is;
-    } in
-    take_none _ _ _ _ _ _ at c.get_mut.follows.lender-at-none.entries
-    (rw c.in_default-get_mut.is at c.get_mut.ensures.value)
-    (ap (λ m. m.entries) c.get_mut.follows.holds-at-none)
+pub returns-in_default-get_mut : goal.returns-in_default-get_mut
+returns-in_default-get_mut g t c =
+    let at = at_node c.self.inside.children.entries (ap levels_left c.in-Some.is
+    ∙ c.split_first.ensures) c.self.invariant c.self.view_is in
+    let found = rw c.in_default-get_mut.is at c.get_mut.ensures.value in
+    record {
+      value = sym (found_step at None found);
+      rest = take_none at c.get_mut.follows.lender-at-none.entries found
+          (ap (λ m. m.entries) c.get_mut.follows.holds-at-none);
+    }
 
 pub invariant_of-self-then-is_empty : goal.invariant_of-self-then-is_empty
 invariant_of-self-then-is_empty g t c =
-    let at : At (levels_left c.args.key) c.split_first.result.0.now
-    (levels_left c.split_first.result.1) c.self.inside.value c.self.inside.children.entries
-    c.args.self.now = record {
-      key_is = ap levels_left c.in-Some.is ∙ c.split_first.ensures;
-      are = c.self.invariant;
-      is = c.self.view_is;
-    } in
+    let at = at_node c.self.inside.children.entries (ap levels_left c.in-Some.is
+    ∙ c.split_first.ensures) c.self.invariant c.self.view_is in
     let new = with_value c.in-Some-get_mut.child.now c.take-taken.new.self in
-    children_cut _ _ _ _ _ _ at new _ (rw (c.get_mut.follows.holds new).0 at c.cut.ensures.entries)
+    children_cut at new _ (rw (c.get_mut.follows.holds new).0 at c.cut.ensures.entries)
     c.cut.ensures.ordered
 
 pub invariant_of-self-else-is_empty : goal.invariant_of-self-else-is_empty
 invariant_of-self-else-is_empty g t c =
-    let at : At (levels_left c.args.key) c.split_first.result.0.now
-    (levels_left c.split_first.result.1) c.self.inside.value c.self.inside.children.entries
-    c.args.self.now = record {
-      key_is = ap levels_left c.in-Some.is ∙ c.split_first.ensures;
-      are = c.self.invariant;
-      is = c.self.view_is;
-    } in
+    let at = at_node c.self.inside.children.entries (ap levels_left c.in-Some.is
+    ∙ c.split_first.ensures) c.self.invariant c.self.view_is in
     let new = with_value c.in-Some-get_mut.child.now c.take-taken.new.self in
     let w = c.get_mut.follows.holds new in
-    children_set _ _ _ _ _ _ at new _
+    children_set at new _
     (some_from_not_empty _ c.is_empty.result (rw c.deref.ensures at c.is_empty.ensures)
     c.if-is_empty.false) w.0 w.4
 
-pub returns-then-is_empty-clause-value : goal.returns-then-is_empty-clause-value
-returns-then-is_empty-clause-value g t c =
-    let at : At (levels_left c.args.key) c.split_first.result.0.now
-    (levels_left c.split_first.result.1) c.self.inside.value c.self.inside.children.entries
-    c.args.self.now = record {
-      key_is = ap levels_left c.in-Some.is ∙ c.split_first.ensures;
-      are = c.self.invariant;
-      is = c.self.view_is;
-    } in
-    rw c.deref_mut.ensures.value at c.take-taken.ensures.value
-    ∙ sym (found_step _ _ _ _ _ _ at (Some c.in-Some-get_mut.child.now)
-    (rw c.in-Some-get_mut.is at c.get_mut.ensures.value))
-
-pub returns-then-is_empty-clause-rest : goal.returns-then-is_empty-clause-rest
-returns-then-is_empty-clause-rest g t c =
-    let at : At (levels_left c.args.key) c.split_first.result.0.now
-    (levels_left c.split_first.result.1) c.self.inside.value c.self.inside.children.entries
-    c.args.self.now = record {
-      key_is = ap levels_left c.in-Some.is ∙ c.split_first.ensures;
-      are = c.self.invariant;
-      is = c.self.view_is;
-    } in
+pub returns-then-is_empty : goal.returns-then-is_empty
+returns-then-is_empty g t c =
+    let at = at_node c.self.inside.children.entries (ap levels_left c.in-Some.is
+    ∙ c.split_first.ensures) c.self.invariant c.self.view_is in
     let child = c.in-Some-get_mut.child.now in
     let new = with_value child c.take-taken.new.self in
-    take_cut _ _ _ _ _ _ at child new _ (rw c.in-Some-get_mut.is at c.get_mut.ensures.value)
-    (rw c.deref_mut.ensures.value at c.take-taken.ensures.rest)
-    (nil_from_empty _ c.is_empty.result (rw c.deref.ensures at c.is_empty.ensures)
-    c.if-is_empty.true)
-    (rw (c.get_mut.follows.holds new).0 at c.cut.ensures.entries)
+    let found = rw c.in-Some-get_mut.is at c.get_mut.ensures.value in
+    record {
+      value = rw c.deref_mut.ensures.value at c.take-taken.ensures.value
+          ∙ sym (found_step at (Some child) found);
+      rest = take_cut at child new _ found
+          (rw c.deref_mut.ensures.value at c.take-taken.ensures.rest)
+          (nil_from_empty _ c.is_empty.result (rw c.deref.ensures at c.is_empty.ensures)
+          c.if-is_empty.true) (rw (c.get_mut.follows.holds new).0 at c.cut.ensures.entries);
+    }
 
-pub returns-else-is_empty-clause-value : goal.returns-else-is_empty-clause-value
-returns-else-is_empty-clause-value g t c =
-    let at : At (levels_left c.args.key) c.split_first.result.0.now
-    (levels_left c.split_first.result.1) c.self.inside.value c.self.inside.children.entries
-    c.args.self.now = record {
-      key_is = ap levels_left c.in-Some.is ∙ c.split_first.ensures;
-      are = c.self.invariant;
-      is = c.self.view_is;
-    } in
-    rw c.deref_mut.ensures.value at c.take-taken.ensures.value
-    ∙ sym (found_step _ _ _ _ _ _ at (Some c.in-Some-get_mut.child.now)
-    (rw c.in-Some-get_mut.is at c.get_mut.ensures.value))
-
-pub returns-else-is_empty-clause-rest : goal.returns-else-is_empty-clause-rest
-returns-else-is_empty-clause-rest g t c =
-    let at : At (levels_left c.args.key) c.split_first.result.0.now
-    (levels_left c.split_first.result.1) c.self.inside.value c.self.inside.children.entries
-    c.args.self.now = record {
-      key_is = ap levels_left c.in-Some.is ∙ c.split_first.ensures;
-      are = c.self.invariant;
-      is = c.self.view_is;
-    } in
+pub returns-else-is_empty : goal.returns-else-is_empty
+returns-else-is_empty g t c =
+    let at = at_node c.self.inside.children.entries (ap levels_left c.in-Some.is
+    ∙ c.split_first.ensures) c.self.invariant c.self.view_is in
     let child = c.in-Some-get_mut.child.now in
     let new = with_value child c.take-taken.new.self in
-    take_kept _ _ _ _ _ _ at child new _ (rw c.in-Some-get_mut.is at c.get_mut.ensures.value)
-    (rw c.deref_mut.ensures.value at c.take-taken.ensures.rest) (c.get_mut.follows.holds new).0
+    let found = rw c.in-Some-get_mut.is at c.get_mut.ensures.value in
+    record {
+      value = rw c.deref_mut.ensures.value at c.take-taken.ensures.value
+          ∙ sym (found_step at (Some child) found);
+      rest = take_kept at child new _ found
+          (rw c.deref_mut.ensures.value at c.take-taken.ensures.rest)
+          (c.get_mut.follows.holds new).0;
+    }

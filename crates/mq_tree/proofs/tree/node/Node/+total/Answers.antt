@@ -4,9 +4,9 @@ use Rattle.std.specs.Map.{values_of}
 use Rattle.std.proofs.lemmas.List.Sums.{sum_by-cons}
 use Rattle.std.proofs.lemmas.Map.Iter.{rest_more, rest_all}
 use Rattle.mq_topic.specs.Prefixes.{capped}
-use Rattle.mq_tree.specs.Nodes.{NodeView, own, entries_of, weight}
+use Rattle.mq_tree.specs.Nodes.{NodeView, own, weight}
 use Rattle.mq_tree.proofs.Counts.{held, held-node}
-use Rattle.mq_tree.proofs.Filters.{all_weigh_less, first_weighs_less}
+use Rattle.mq_tree.proofs.Filters.{all_weigh_less, next_weighs_less}
 use Rattle.mq_tree.proofs.tree.node.Node.+total.Goals as goal
 
 pub loop-child-init : goal.loop-child-init
@@ -30,19 +30,13 @@ loop-child-init g t c =
 pub total-requires : goal.total-requires
 total-requires g t c =
     let e = rest_more (λ x. x) _ _ _ c.in-Some.child c.in-Some.is c.next.ensures.steps in
-    let live = rw e at c.loop-child.invariant.live in
-    let low = rw e at c.loop-child.invariant.low in
-    let less = first_weighs_less c.in-Some.child c.next.new.self
-    (weight (entries_of c.args.self.now)) live low in
+    let less = next_weighs_less _ _ _ _ e c.loop-child.invariant.live c.loop-child.invariant.low in
     λ κs x. (omega (arith, less.0, ap weight c.node.ensures), x)
 
 pub loop-child-preserved : goal.loop-child-preserved
 loop-child-preserved g t c =
     let e = rest_more (λ x. x) _ _ _ c.in-Some.child c.in-Some.is c.next.ensures.steps in
-    let live = rw e at c.loop-child.invariant.live in
-    let low = rw e at c.loop-child.invariant.low in
-    let less = first_weighs_less c.in-Some.child c.next.new.self
-    (weight (entries_of c.args.self.now)) live low in
+    let less = next_weighs_less _ _ _ _ e c.loop-child.invariant.live c.loop-child.invariant.low in
     let count = rw e at c.loop-child.invariant.count in
     let fits = c.loop-child.invariant.fits in
     record {
@@ -54,7 +48,7 @@ loop-child-preserved g t c =
       );
       fits = omega arith;
       low = less.1;
-      live = live.1;
+      live = less.2;
     }
 
 pub returns : goal.returns

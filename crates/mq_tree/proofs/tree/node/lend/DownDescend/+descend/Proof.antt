@@ -16,7 +16,6 @@ use base.Logic.{SProp, ent, sep, via, fst∗, snd∗, mono_r, id⊢}
 use types.Logic.{Logic}
 use prog.Model.{Model}
 use prog.Wired.{Wired}
-use prog.Wp.{Tables}
 use seplogic.Ra.Ura.{Ura}
 use contract.Running.{Running, tables_of}
 use contract.Monad.{fact, fact_mono, fact_use}
@@ -104,12 +103,12 @@ module _ (V : RattleType) (LV : Laws V) where
 
   abbrev claims : ℕ → walk.Claims V LV
   claims t = (
-    λ κs a. lent.Asked (walk.arg-0-0 V LV κs) (walk.arg-0-1 V LV κs) (walk.laws-0-0 V LV κs)
-        (walk.laws-0-1 V LV κs) (ghosts t) dict κs a,
-    λ κs a x e. lent.Learnt (walk.arg-0-0 V LV κs) (walk.arg-0-1 V LV κs) (walk.laws-0-0 V LV κs)
-        (walk.laws-0-1 V LV κs) (ghosts t) dict κs a x e,
-    λ κs a x e. lent.how (walk.arg-0-0 V LV κs) (walk.arg-0-1 V LV κs) (walk.laws-0-0 V LV κs)
-        (walk.laws-0-1 V LV κs) (ghosts t) dict κs a x e,
+    lent.Asked (walk.arg-0 V LV) (walk.arg-1 V LV) (walk.laws-0 V LV) (walk.laws-1 V LV) (ghosts t)
+        dict,
+    lent.Learnt (walk.arg-0 V LV) (walk.arg-1 V LV) (walk.laws-0 V LV) (walk.laws-1 V LV) (ghosts t)
+        dict,
+    lent.how (walk.arg-0 V LV) (walk.arg-1 V LV) (walk.laws-0 V LV) (walk.laws-1 V LV) (ghosts t)
+        dict,
   )
 
   lives : (t : ℕ) (κs : Lfts 3) (a : Dens κs (walk.ps V LV)) → Pre t κs a → (κs.1.1.0 ⊑ V.lives)
@@ -153,12 +152,12 @@ module _ {M : Type 1} (𝓤 : Ura M) (𝓛 : Logic 𝓤) (𝓜 : Model 𝓤 𝓛
   known : (t : ℕ) → Met t → walk.Known-0 V LV (claims V LV t) 𝓛 (Over 𝓛 𝓜 𝓡 𝓡.env)
   unfolding tables_of
   known t met y =
-      lent.followed (walk.arg-0-0 V LV y.0.0) (walk.arg-0-1 V LV y.0.0) (walk.laws-0-0 V LV y.0.0)
-      (walk.laws-0-1 V LV y.0.0) (ghosts V LV t) (dict V LV) w 𝓡.env
+      lent.followed (walk.arg-0 V LV) (walk.arg-1 V LV) (walk.laws-0 V LV)
+      (walk.laws-1 V LV) (ghosts V LV t) (dict V LV) w 𝓡.env
       (lend'.name (walk.passed-0 V LV)) (𝓡.env (lend'.name (walk.passed-0 V LV))) refl
       (lend.met 𝓤 𝓛 𝓜 𝓡 (code.calls-mq_tree::tree::node::Node::lend 𝓡.env wired)
-      (walk.arg-0-0 V LV y.0.0) (walk.arg-0-1 V LV y.0.0) (walk.laws-0-0 V LV y.0.0)
-      (walk.laws-0-1 V LV y.0.0) (ghosts V LV t) (dict V LV)
+      (walk.arg-0 V LV) (walk.arg-1 V LV) (walk.laws-0 V LV)
+      (walk.laws-1 V LV) (ghosts V LV t) (dict V LV)
       (record { descend = met.descend })) y
 
   step : (t : ℕ) → Met t → Holds (suc t)

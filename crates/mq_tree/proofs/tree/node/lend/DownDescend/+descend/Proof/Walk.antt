@@ -9,19 +9,14 @@ use base.Fml
 use base.Fraction
 use base.Logic
 use borrow.Fn.Call
-use borrow.Fn.Enter
-use borrow.Fn.Frame
 use borrow.Fn.Function
 use borrow.Fn.Kinds
 use borrow.Fn.Plain
-use borrow.Fn.Result
 use borrow.Follows.Home
 use borrow.Follows.Kind
-use borrow.Follows.Lender
 use borrow.Follows.Maybe
 use borrow.Follows.So
 use borrow.Join.Shorter
-use borrow.Kind.EnumInner
 use borrow.Kind.EnumTo
 use borrow.Kind.StructFields
 use borrow.Kind.ValueTo
@@ -32,9 +27,7 @@ use borrow.Rule.Local
 use borrow.Rule.LocalCopy
 use borrow.Rule.Pass
 use borrow.Rule.Scalar
-use borrow.Rule.Way
 use borrow.Rule.Yields
-use borrow.Table.Copies
 use borrow.Table.Own
 use borrow.Table.Reads
 use borrow.Table.Row
@@ -44,7 +37,6 @@ use borrow.Table.Typed
 use contract.BorrowLft
 use contract.Lifetimes
 use denote.Enum.Declared
-use denote.Enum.Enum
 use denote.Enum.Laws
 use denote.Enum.Loose
 use denote.Exit
@@ -54,7 +46,6 @@ use denote.RattleType
 use denote.Signature
 use denote.Struct.Field
 use denote.Text
-use denote.Triple.Statement
 use mathlib.Core.Option as Option'
 use mir.Syntax
 use prog.Wp
@@ -63,20 +54,19 @@ use types.Logic as Logic'
 use Rattle.mq_tree.proofs.tree.node.Node.lend.Kinds as callee
 use Rattle.mq_tree.proofs.tree.node.lend.DownDescend.descend.Kinds as kinds
 use Rattle.mq_tree.proofs.tree.node.lend.Down.TheLaws as down
-use mathlib.Core.Path.{◌≡◌, refl, subst}
+use mathlib.Core.Path.{◌≡◌, refl}
+use Rattle.std.specs.Prelude.{codes}
 use mathlib.Core.List.{List, [], ◌∷◌}
 
 module _ (V : RattleType.RattleType) (LV : Laws'.Laws V) where
-  abbrev pub name-0 : List Nat.ℕ
-  name-0 = 38 ∷ 91 ∷ 93 ∷ []
+  abbrev name-0 : List Nat.ℕ
+  name-0 = codes "&[]"
 
-  abbrev pub name-1 : List Nat.ℕ
-  name-1 = 99 ∷ 111 ∷ 114 ∷ 101 ∷ 58 ∷ 58 ∷ 111 ∷ 112 ∷ 116 ∷ 105 ∷ 111 ∷ 110 ∷ 58 ∷ 58 ∷ 79 ∷ 112
-      ∷ 116 ∷ 105 ∷ 111 ∷ 110 ∷ []
+  abbrev name-1 : List Nat.ℕ
+  name-1 = codes "core::option::Option"
 
-  abbrev pub name-3 : List Nat.ℕ
-  name-3 = 109 ∷ 113 ∷ 95 ∷ 116 ∷ 114 ∷ 101 ∷ 101 ∷ 58 ∷ 58 ∷ 116 ∷ 114 ∷ 101 ∷ 101 ∷ 58 ∷ 58 ∷ 110
-      ∷ 111 ∷ 100 ∷ 101 ∷ 58 ∷ 58 ∷ 78 ∷ 111 ∷ 100 ∷ 101 ∷ []
+  abbrev name-3 : List Nat.ℕ
+  name-3 = codes "mq_tree::tree::node::Node"
 
   abbrev pub behind-3 : Syntax.Ty
   behind-3 = Syntax.ty_named (name-3, []) (Syntax.tcons (Syntax.ty_param 0) Syntax.tnil)
@@ -134,6 +124,9 @@ module _ (V : RattleType.RattleType) (LV : Laws'.Laws V) where
   abbrev rows : Row.Row → Row.Row → Row.Row → Row.Row → Row.Row → List Row.Entry
   rows a b c d e = (0, a) ∷ (1, b) ∷ (2, c) ∷ (3, d) ∷ (4, e) ∷ []
 
+  abbrev all : List Nat.ℕ
+  all = 0 ∷ 1 ∷ 2 ∷ 3 ∷ []
+
   abbrev before : List Row.Entry → Row.Cx
   before t = record { locals = t; slots = [] }
 
@@ -163,26 +156,21 @@ module _ (V : RattleType.RattleType) (LV : Laws'.Laws V) where
         (Syntax.tcons (Param.layout V) Syntax.tnil) Syntax.dnil) Syntax.dnil,
   )
 
-  abbrev pub arg-0-0 : Lifetimes.Lfts 4 → RattleType.RattleType
-  arg-0-0 = λ κs. Param.arg (Param.layout V) Exit.yes value
+  abbrev lend : Syntax.Callee
+  lend = Syntax.fn "mq_tree::tree::node::Node::lend" passed-0
 
-  abbrev pub arg-0-1 : Lifetimes.Lfts 4 → RattleType.RattleType
-  arg-0-1 = λ κs. Param.arg (Syntax.ty_struct [] Syntax.tnil) Exit.no Down.the_row
+  abbrev pub arg-0 : RattleType.RattleType
+  arg-0 = Param.arg (Param.layout V) Exit.yes value
 
-  abbrev pub laws-0-0 : (κs : Lifetimes.Lfts 4)
-      → Laws'.Laws (Param.arg (Param.layout V) Exit.yes value)
-  laws-0-0 = λ κs. Laws'.arg_laws (Param.layout V) Exit.yes value (Laws'.param_laws 0 V LV) refl
+  abbrev pub arg-1 : RattleType.RattleType
+  arg-1 = Param.arg (Syntax.ty_struct [] Syntax.tnil) Exit.no Down.the_row
 
-  abbrev pub laws-0-1 : (κs : Lifetimes.Lfts 4)
-      → Laws'.Laws (Param.arg (Syntax.ty_struct [] Syntax.tnil) Exit.no Down.the_row)
-  laws-0-1 = λ κs. Laws'.arg_laws (Syntax.ty_struct [] Syntax.tnil) Exit.no Down.the_row
-      down.the_row_laws refl
+  abbrev pub laws-0 : Laws'.Laws arg-0
+  laws-0 = Laws'.arg_laws (Param.layout V) Exit.yes value (Laws'.param_laws 0 V LV) refl
 
-  abbrev pub whole-0 : RattleType.RattleType
-  whole-0 = node
-
-  abbrev pub part-0 : RattleType.RattleType
-  part-0 = Param.param 0 V
+  abbrev pub laws-1 : Laws'.Laws arg-1
+  laws-1 = Laws'.arg_laws (Syntax.ty_struct [] Syntax.tnil) Exit.no Down.the_row down.the_row_laws
+      refl
 
   abbrev pub rest-0 : List (Kinds.ParamKind 4)
   rest-0 = callee.rest V Down.the_row LV down.the_row_laws
@@ -193,7 +181,7 @@ module _ (V : RattleType.RattleType) (LV : Laws'.Laws V) where
   abbrev pub ps_on-0 : List (Kinds.ParamKind 4)
   ps_on-0 = callee.ps_on V Down.the_row LV down.the_row_laws
 
-  abbrev pub lender-0 : Lender.Lender 4 node
+  abbrev pub lender-0 : borrow.Follows.Lender.Lender 4 node
   lender-0 = callee.lender V Down.the_row LV down.the_row_laws
 
   abbrev pub hs : List Syntax.Home
@@ -208,116 +196,75 @@ module _ (V : RattleType.RattleType) (LV : Laws'.Laws V) where
   b1 = Syntax.assign (Syntax.place 4 []) (Syntax.rv_opd (Syntax.copy (Syntax.place 2 [])))
 
   abbrev b2 : Syntax.Body
-  b2 = Syntax.call (Syntax.fn "mq_tree::tree::node::Node::lend" (
-    Syntax.tcons (Param.layout V) (Syntax.tcons (Syntax.ty_struct [] Syntax.tnil) Syntax.tnil),
-    Syntax.dcons
-        (Syntax.impl ("mq_tree::tree::node::lend::DownDescend::descend" ∷ [])
-        (Syntax.tcons (Param.layout V) Syntax.tnil) Syntax.dnil) Syntax.dnil,
-  )) ((Syntax.copy
-      (Syntax.place 3 [])) ∷ (Syntax.copy (Syntax.place 4 [])) ∷ []) (Syntax.place 0 [])
-
-  abbrev b3 : Syntax.Body
-  b3 = Syntax.return
-
-  abbrev b4 : Syntax.Body
-  b4 = Syntax.seq b2 b3
-
-  abbrev b5 : Syntax.Body
-  b5 = Syntax.seq b1 b4
-
-  abbrev b6 : Syntax.Body
-  b6 = Syntax.seq b0 b5
+  b2 = Syntax.call lend (Syntax.copy (Syntax.place 3 []) ∷ Syntax.copy (Syntax.place 4 []) ∷ [])
+      (Syntax.place 0 [])
 
   abbrev pub body : Syntax.Body
-  body = b6
+  body = Syntax.seq b0 (Syntax.seq b1 (Syntax.seq b2 Syntax.return))
 
   abbrev pub function : Syntax.Fn
   function = Function.fn_of 3 ps r xs m hs body
 
   abbrev pub Claims : Type 1
   Claims = Kinds.In 4 ps-0 × Kinds.Out 4 ps-0 r-0
-      × So.HowSo 4 whole-0 part-0 named-0 lender-0 rest-0 r-0 (AtSlots.one_type 4 named-0)
+      × So.HowSo 4 node value named-0 lender-0 rest-0 r-0 (AtSlots.one_type 4 named-0)
 
-  abbrev pub t0 : List Row.Entry
-  t0 = rows (Rows.any_gone lent_ty) (Rows.mref node (ref_ty (Syntax.named 0)) 0)
-      (Rows.whole (key_row [])) (Rows.any_gone (ref_ty Syntax.erased)) (Rows.any_gone
-      (key_ty Syntax.erased))
+  -- the rows before each step, where a is the lifetime of the result and k that of the key
+  abbrev key_any : Row.Row
+  key_any = ValueAt.val_at 4 (λ κc. key_row κc.1.0) (Option.the_type (text_at []).row).D (λ κc v. v)
+      all (key_ty Syntax.erased)
 
-  abbrev pub t1 : List Row.Entry
-  t1 = rows (Rows.whole (lent_row [])) (Kind.owing_by node hands (ref_ty (Syntax.named 0)))
-      (Rows.whole (key_row [])) (Rows.any_gone (ref_ty Syntax.erased))
+  abbrev lent_any : Row.Row
+  lent_any = ValueAt.val_at 4 (λ κc. lent_row κc.0) (lent_at []).D (λ κc v. v) all lent_ty
+
+  abbrev rows-0 : Fml.Lft → List Row.Entry
+  rows-0 k = rows (Rows.any_gone lent_ty) (Rows.mref node (ref_ty (Syntax.named 0)) 0)
+      (Rows.whole (key_row k)) (Rows.any_gone (ref_ty Syntax.erased))
       (Rows.any_gone (key_ty Syntax.erased))
 
-  abbrev pub t2 : List Row.Entry
-  t2 = rows (Rows.any_gone lent_ty) (Rows.any_gone (ref_ty (Syntax.named 0)))
-      (Rows.whole (key_row [])) (Rows.mref node (ref_ty Syntax.erased) 0) (Rows.any_gone
-      (key_ty Syntax.erased))
+  abbrev rows-1 : Fml.Lft → Fml.Lft → List Row.Entry
+  rows-1 a k = rows (Rows.whole (lent_row a)) (Kind.owing_by node hands (ref_ty (Syntax.named 0)))
+      (Rows.whole (key_row k)) (Rows.any_gone (ref_ty Syntax.erased))
+      (Rows.any_gone (key_ty Syntax.erased))
 
-  abbrev pub t3 : List Row.Entry
-  t3 = rows (Rows.any_gone lent_ty) (Rows.any_gone (ref_ty (Syntax.named 0)))
-      (Rows.whole (key_row [])) (Rows.mref node (ref_ty Syntax.erased) 0) (Rows.whole
-      (key_here []))
+  -- the node is passed on, and its key is the row e
+  abbrev passed : Fml.Lft → Row.Row → List Row.Entry
+  passed k e = rows (Rows.any_gone lent_ty) (Rows.any_gone (ref_ty (Syntax.named 0)))
+      (Rows.whole (key_row k)) (Rows.mref node (ref_ty Syntax.erased) 0) e
 
-  abbrev pub t4 : List Row.Entry
-  t4 = rows (Rows.any_gone lent_ty) (Rows.any_gone (ref_ty (Syntax.named 0)))
-      (Rows.whole (key_row [])) (Rows.mref node (ref_ty Syntax.erased) 0) (ValueAt.val_at 4 (λ
-      κc. key_row κc.1.0) (Option.the_type (text_at []).row).D (λ κc v. v) (0 ∷ 1 ∷ 2 ∷ 3 ∷ [])
-      (key_ty Syntax.erased))
+  -- the result is the row r, and the key that was passed on the row e
+  abbrev called : Fml.Lft → Row.Row → Row.Row → List Row.Entry
+  called k r e = rows r (Rows.any_gone (ref_ty (Syntax.named 0))) (Rows.whole (key_row k))
+      (Maybe.waits_if node value (lent_at []).D (ref_ty Syntax.erased)) e
 
-  abbrev pub t5 : List Row.Entry
-  t5 = rows (ValueAt.val_at 4 (λ κc. lent_row κc.0) (lent_at []).D (λ κc v. v) (0 ∷ 1 ∷ 2 ∷ 3 ∷ [])
-      lent_ty) (Rows.any_gone (ref_ty (Syntax.named 0))) (Rows.whole
-      (key_row [])) (Maybe.waits_if node value (lent_at []).D (ref_ty Syntax.erased))
-      (ValueAt.val_at 4 (λ κc. key_row κc.1.0) (Option.the_type (text_at
-      ([])).row).D (λ κc v. v) (0 ∷ 1 ∷ 2 ∷ 3 ∷ []) (key_ty Syntax.erased))
+  abbrev Cx0 : Row.Cx
+  Cx0 = before (rows-0 [])
 
-  abbrev pub t6 : List Row.Entry
-  t6 = rows (ValueAt.val_at 4 (λ κc. lent_row κc.0) (lent_at []).D (λ κc v. v) (0 ∷ 1 ∷ 2 ∷ 3 ∷ [])
-      lent_ty) (Rows.any_gone (ref_ty (Syntax.named 0))) (Rows.whole
-      (key_row [])) (Maybe.waits_if node value (lent_at []).D (ref_ty Syntax.erased))
-      (Rows.whole (key_here []))
+  abbrev Cx1 : Row.Cx
+  Cx1 = before (rows-1 [] [])
 
-  abbrev pub t7 : List Row.Entry
-  t7 = rows (Rows.whole (lent_row [])) (Rows.any_gone (ref_ty (Syntax.named 0)))
-      (Rows.whole (key_row [])) (Maybe.waits_if node value (lent_at []).D (ref_ty
-      Syntax.erased)) (Rows.whole (key_here []))
+  abbrev Cx3 : Row.Cx
+  Cx3 = before (passed [] (Rows.any_gone (key_ty Syntax.erased)))
 
-  abbrev pub t8 : List Row.Entry
-  t8 = rows (Rows.whole (lent_row [])) (Rows.any_gone (ref_ty (Syntax.named 0)))
-      (Rows.whole (key_row [])) (Maybe.waits_if node value (lent_at []).D (ref_ty
-      Syntax.erased)) (Rows.any_gone (key_ty Syntax.erased))
+  abbrev Cx4 : Row.Cx
+  Cx4 = before (passed [] (Rows.whole (key_here [])))
 
-  abbrev pub Cx0 : Row.Cx
-  Cx0 = before t0
+  abbrev Cx5 : Row.Cx
+  Cx5 = before (passed [] key_any)
 
-  abbrev pub Cx1 : Row.Cx
-  Cx1 = before t1
+  abbrev Cx6 : Row.Cx
+  Cx6 = before (called [] lent_any key_any)
 
-  abbrev pub Cx3 : Row.Cx
-  Cx3 = before t2
+  abbrev Cx7 : Row.Cx
+  Cx7 = before (called [] lent_any (Rows.whole (key_here [])))
 
-  abbrev pub Cx4 : Row.Cx
-  Cx4 = before t3
+  abbrev Cx8 : Row.Cx
+  Cx8 = before (called [] (Rows.whole (lent_row [])) (Rows.whole (key_here [])))
 
-  abbrev pub Cx5 : Row.Cx
-  Cx5 = before t4
+  abbrev Cx9 : Row.Cx
+  Cx9 = before (called [] (Rows.whole (lent_row [])) (Rows.any_gone (key_ty Syntax.erased)))
 
-  abbrev pub Cx6 : Row.Cx
-  Cx6 = before t5
-
-  abbrev pub Cx7 : Row.Cx
-  Cx7 = before t6
-
-  abbrev pub Cx8 : Row.Cx
-  Cx8 = before t7
-
-  abbrev pub Cx9 : Row.Cx
-  Cx9 = before t8
-
-  abbrev pub Cx10 : Row.Cx
-  Cx10 = before t1
-
-  abbrev pub O0 : Typed.Outs
+  abbrev O0 : Typed.Outs
   O0 = record { next = Option'.none; exits = []; returns = Option'.some Cx1 }
 
   abbrev pub Pre-type : Type 1
@@ -327,117 +274,59 @@ module _ (V : RattleType.RattleType) (LV : Laws'.Laws V) where
   Post-type = (κs : Lifetimes.Lfts 3) → (a : Kinds.Dens κs ps) → Kinds.Plain 3 ps r κs
 
   module _ (the-claims : Claims) where
-    abbrev pub s1 : Typed.Mo Cx0 → Typed.Mo Cx3
+    abbrev s1 : Typed.Mo Cx0 → Typed.Mo Cx3
     s1 = Pass.n_ref_pass Cx0 1 3 0 node (ref_ty (Syntax.named 0)) (ref_ty Syntax.erased) λ x. x
 
-    abbrev pub s2 : Typed.Mo Cx3 → Typed.Mo Cx4
+    abbrev s2 : Typed.Mo Cx3 → Typed.Mo Cx4
     s2 = LocalCopy.n_val_copy Cx3 2 4 (key_row []) (Rows.whole (key_row []))
         (Rows.whole (key_here [])) (λ x. x) (λ x. x) λ x. x
 
-    abbrev pub s3 : Typed.Mo Cx4 → Typed.Mo Cx5
-    s3 = AtSlots.n_as_by Cx4 4
-        (ValueAt.val_at 4 (λ κc. key_row κc.1.0) (Option.the_type (text_at []).row).D (λ κc v. v)
-        (0 ∷ 1 ∷ 2 ∷ 3 ∷ []) (key_ty Syntax.erased))
-        λ x. x
+    abbrev s3 : Typed.Mo Cx4 → Typed.Mo Cx5
+    s3 = AtSlots.n_as_by Cx4 4 key_any λ x. x
 
-    abbrev pub s4 : Typed.Both Cx5 Cx6
-    s4 = So.call_so 4 whole-0 part-0 named-0 lender-0 rest-0 r-0 (AtSlots.one_type 4 named-0)
-        the-claims.2 (λ κs a. BorrowLft.◌⊑◌ κs.1.1.0 V.lives → the-claims.0 κs
-        a) the-claims.1 Cx5 (
+    abbrev s4 : Typed.Both Cx5 Cx6
+    s4 = So.call_so 4 node value named-0 lender-0 rest-0 r-0 (AtSlots.one_type 4 named-0)
+        the-claims.2 (λ κs a. BorrowLft.◌⊑◌ κs.1.1.0 V.lives → the-claims.0 κs a) the-claims.1 Cx5 (
           record { pos = 3; ty = ref_ty Syntax.erased; ref = λ x. x },
           (record { pos = 4; ty = key_ty Syntax.erased; at = λ x. x }, tt),
-        ) 0 (0 ∷ 1 ∷
-        2 ∷ 3 ∷ []) lent_ty
+        ) 0 all lent_ty
 
-    abbrev pub s5 : Typed.Mo Cx6 → Typed.Mo Cx7
+    abbrev s5 : Typed.Mo Cx6 → Typed.Mo Cx7
     s5 = AtSlots.n_as_by Cx6 4 (Rows.whole (key_here [])) λ x. x
 
-    abbrev pub s6 : Typed.Mo Cx7 → Typed.Mo Cx8
+    abbrev s6 : Typed.Mo Cx7 → Typed.Mo Cx8
     s6 = AtSlots.n_as_by Cx7 0 (Rows.whole (lent_row [])) λ x. x
 
-    abbrev pub s7 : Typed.Mo Cx8 → Typed.Mo Cx9
+    abbrev s7 : Typed.Mo Cx8 → Typed.Mo Cx9
     s7 = Scalar.n_room Cx8 4 (key_ty Syntax.erased)
 
-    abbrev pub s8 : Typed.Mo Cx9 → Typed.Mo Cx10
-    s8 = Home.k_owing_home Cx9 1 3 (ref_ty (Syntax.named 0)) (ref_ty Syntax.erased) node hands λ x.
-        x
+    abbrev s8 : Typed.Mo Cx9 → Typed.Mo Cx1
+    s8 = Home.k_owing_home Cx9 1 3 (ref_ty (Syntax.named 0)) (ref_ty Syntax.erased) node hands
+        λ x. x
+
+    abbrev told : Kinds.Out 4 ps_on-0 r-0
+    told = So.WithSo 4 node value named-0 lender-0 rest-0 r-0 (AtSlots.one_type 4 named-0)
+        the-claims.2 the-claims.0 the-claims.1
 
     module _ {M : Type 1} {𝓤 : Ura.Ura M} (𝓛 : Logic'.Logic 𝓤) (𝓣 : Wp.Tables 𝓤 𝓛.H) where
       abbrev pub Known-0 : Type 1
-      Known-0 = Plain.Known 𝓛 𝓣 4 ps_on-0 r-0 the-claims.0
-          (So.WithSo 4 whole-0 part-0 named-0 lender-0 rest-0 r-0 (AtSlots.one_type 4 named-0)
-          the-claims.2
-          the-claims.0 the-claims.1) (Syntax.fn "mq_tree::tree::node::Node::lend" (
-            Syntax.tcons (Param.layout V) (Syntax.tcons (Syntax.ty_struct [] Syntax.tnil)
-                Syntax.tnil),
-            Syntax.dcons (Syntax.impl ("mq_tree::tree::node::lend::DownDescend::descend" ∷ [])
-                (Syntax.tcons (Param.layout V) Syntax.tnil) Syntax.dnil)
-                Syntax.dnil,
-          ))
+      Known-0 = Plain.Known 𝓛 𝓣 4 ps_on-0 r-0 the-claims.0 told lend
 
     module _ (the-Pre : Pre-type) (the-Post : Post-type) where
       module _ (M : Type 1) where
         abbrev pub Closed : Type 2
-        Closed = (𝓤 : Ura.Ura M) (𝓛 : Logic'.Logic 𝓤) (𝓣 : Wp.Tables 𝓤 𝓛.H)
-            (known0 : Plain.Known 𝓛 𝓣 4 ps_on-0 r-0 the-claims.0 (So.WithSo 4 whole-0 part-0 named-0
-            lender-0 rest-0 r-0 (AtSlots.one_type 4 named-0) the-claims.2 the-claims.0 the-claims.1)
-            (Syntax.fn "mq_tree::tree::node::Node::lend" (
-              Syntax.tcons (Param.layout
-                  V) (Syntax.tcons (Syntax.ty_struct [] Syntax.tnil) Syntax.tnil),
-              Syntax.dcons (Syntax.impl ("mq_tree::tree::node::lend::DownDescend::descend" ∷ [])
-                  (Syntax.tcons (Param.layout V) Syntax.tnil) Syntax.dnil) Syntax.dnil,
-            ))) → Statement.Triple 𝓤 (Wp.WpFn 𝓤 𝓛.H 𝓣.C 𝓣.Λ (Function.fn_of 3 ps r xs m hs body))
+        Closed = (𝓤 : Ura.Ura M) (𝓛 : Logic'.Logic 𝓤) (𝓣 : Wp.Tables 𝓤 𝓛.H) → Known-0 𝓛 𝓣
+            → denote.Triple.Statement.Triple 𝓤 (Wp.WpFn 𝓤 𝓛.H 𝓣.C 𝓣.Λ function)
             (Function.plain_of 𝓛 3 ps r the-Pre the-Post)
 
       module _ where
-        abbrev at0 : Typed.TF Cx10 O0
-        at0 = Typed.at_ret O0
-
-        abbrev at1 : Typed.TF Cx10 O0
-        at1 = λ Ψ. at0 Ψ
-
-        abbrev at2 : Typed.TF Cx9 O0
-        at2 = λ Ψ. Typed.pass Cx9 Cx10 s8 (at1 Ψ)
-
-        abbrev at3 : Typed.TF Cx8 O0
-        at3 = λ Ψ. Typed.pass Cx8 Cx9 s7 (at2 Ψ)
-
-        abbrev at4 : Typed.TF Cx7 O0
-        at4 = λ Ψ. Typed.pass Cx7 Cx8 s6 (at3 Ψ)
-
-        abbrev at5 : Typed.TF Cx6 O0
-        at5 = λ Ψ. Typed.pass Cx6 Cx7 s5 (at4 Ψ)
-
-        abbrev at6 : Typed.TF Cx5 O0
-        at6 = λ Ψ. Typed.both s4 (at5 Ψ)
-
-        abbrev at7 : Typed.TF Cx4 O0
-        at7 = λ Ψ. Typed.pass Cx4 Cx5 s3 (at6 Ψ)
-
-        abbrev at8 : Typed.TF Cx3 O0
-        at8 = λ Ψ. Typed.pass Cx3 Cx4 s2 (at7 Ψ)
-
-        abbrev at9 : Typed.TF Cx0 O0
-        at9 = λ Ψ. Typed.pass Cx0 Cx3 s1 (at8 Ψ)
-
-        abbrev at10 : Typed.TF Cx0 O0
-        at10 = λ Ψ. at9 Ψ
+        abbrev after_call : Typed.TF Cx6 O0
+        after_call = λ Ψ. Typed.pass Cx6 Cx7 s5 (Typed.pass Cx7 Cx8 s6 (Typed.pass Cx8 Cx9 s7
+            (Typed.pass Cx9 Cx1 s8 (Typed.at_ret O0 Ψ))))
 
         abbrev pub Φ : Typed.TF Cx0 O0
-        Φ = at10
-
-        module _ {M : Type 1} {𝓤 : Ura.Ura M} (𝓛 : Logic'.Logic 𝓤) (𝓣 : Wp.Tables 𝓤 𝓛.H) where
-          abbrev Knowns : Type 1
-          Knowns = Plain.Known 𝓛 𝓣 4 ps_on-0 r-0 the-claims.0
-              (So.WithSo 4 whole-0 part-0 named-0 lender-0 rest-0 r-0 (AtSlots.one_type 4 named-0)
-              the-claims.2
-              the-claims.0 the-claims.1) (Syntax.fn "mq_tree::tree::node::Node::lend" (
-                Syntax.tcons (Param.layout V) (Syntax.tcons (Syntax.ty_struct [] Syntax.tnil)
-                    Syntax.tnil),
-                Syntax.dcons (Syntax.impl ("mq_tree::tree::node::lend::DownDescend::descend" ∷ [])
-                    (Syntax.tcons (Param.layout V) Syntax.tnil) Syntax.dnil)
-                    Syntax.dnil,
-              ))
+        Φ = λ Ψ. Typed.pass Cx0 Cx3 s1 (Typed.pass Cx3 Cx4 s2 (Typed.pass Cx4 Cx5 s3
+            (Typed.both s4 (after_call Ψ))))
 
         module _ (κs : Lifetimes.Lfts 3) (qs : Lifetimes.Shares 3) where
           abbrev whole : Row.Life
@@ -451,143 +340,132 @@ module _ (V : RattleType.RattleType) (LV : Laws'.Laws V) where
                 ∷ [];
           }
 
-          abbrev g0 : List Row.Entry
-          g0 = rows (Rows.any_gone lent_ty) (Rows.mref node (ref_ty (Syntax.named 0)) 0)
-              (Rows.whole (key_row κs.1.0)) (Rows.any_gone (ref_ty Syntax.erased))
-              (Rows.any_gone (key_ty Syntax.erased))
-
-          abbrev g1 : List Row.Entry
-          g1 = rows (Rows.whole (lent_row κs.0))
-              (Kind.owing_by node hands (ref_ty (Syntax.named 0))) (Rows.whole (key_row κs.1.0))
-              (Rows.any_gone (ref_ty
-              Syntax.erased)) (Rows.any_gone (key_ty Syntax.erased))
-
-          abbrev g2 : List Row.Entry
-          g2 = rows (Rows.any_gone lent_ty) (Rows.any_gone (ref_ty (Syntax.named 0)))
-              (Rows.whole (key_row κs.1.0)) (Rows.mref node (ref_ty Syntax.erased) 0)
-              (Rows.any_gone (key_ty Syntax.erased))
-
-          abbrev g3 : List Row.Entry
-          g3 = rows (Rows.any_gone lent_ty) (Rows.any_gone (ref_ty (Syntax.named 0)))
-              (Rows.whole (key_row κs.1.0)) (Rows.mref node (ref_ty Syntax.erased) 0)
-              (Rows.whole (key_here κs.1.0))
-
-          abbrev g4 : List Row.Entry
-          g4 = rows (Rows.any_gone lent_ty) (Rows.any_gone (ref_ty (Syntax.named 0)))
-              (Rows.whole (key_row κs.1.0)) (Rows.mref node (ref_ty Syntax.erased) 0)
-              (ValueAt.val_at 4 (λ κc. key_row κc.1.0) (Option.the_type (text_at []).row).D
-              (λ κc v. v) (0 ∷ 1 ∷ 2 ∷ 3 ∷ []) (key_ty Syntax.erased))
-
-          abbrev g5 : List Row.Entry
-          g5 = rows (ValueAt.val_at 4 (λ κc. lent_row κc.0) (lent_at []).D (λ κc v. v)
-              (0 ∷ 1 ∷ 2 ∷ 3 ∷ []) lent_ty) (Rows.any_gone (ref_ty (Syntax.named 0)))
-              (Rows.whole (key_row κs.1.0))
-              (Maybe.waits_if node value (lent_at []).D (ref_ty Syntax.erased))
-              (ValueAt.val_at 4 (λ κc. key_row κc.1.0)
-              (Option.the_type (text_at []).row).D (λ κc v. v) (0 ∷ 1 ∷ 2 ∷ 3 ∷ [])
-              (key_ty Syntax.erased))
-
-          abbrev g6 : List Row.Entry
-          g6 = rows (ValueAt.val_at 4 (λ κc. lent_row κc.0) (lent_at []).D (λ κc v. v)
-              (0 ∷ 1 ∷ 2 ∷ 3 ∷ []) lent_ty) (Rows.any_gone (ref_ty (Syntax.named 0)))
-              (Rows.whole (key_row κs.1.0))
-              (Maybe.waits_if node value (lent_at []).D (ref_ty Syntax.erased))
-              (Rows.whole (key_here κs.1.0))
-
-          abbrev g7 : List Row.Entry
-          g7 = rows (Rows.whole (lent_row κs.0)) (Rows.any_gone (ref_ty (Syntax.named 0)))
-              (Rows.whole (key_row κs.1.0)) (Maybe.waits_if node value (lent_at []).D
-              (ref_ty Syntax.erased)) (Rows.whole (key_here κs.1.0))
-
-          abbrev g8 : List Row.Entry
-          g8 = rows (Rows.whole (lent_row κs.0)) (Rows.any_gone (ref_ty (Syntax.named 0)))
-              (Rows.whole (key_row κs.1.0)) (Maybe.waits_if node value (lent_at []).D
-              (ref_ty Syntax.erased)) (Rows.any_gone (key_ty Syntax.erased))
-
           abbrev G0 : Row.Cx
-          G0 = within g0 Row.off
+          G0 = within (rows-0 κs.1.0) Row.off
 
           abbrev G1 : Row.Cx
-          G1 = within g1 Row.off
+          G1 = within (rows-1 κs.0 κs.1.0) Row.off
 
           abbrev G2 : Row.Cx
-          G2 = within g0 whole
+          G2 = within (rows-0 κs.1.0) whole
 
           abbrev G3 : Row.Cx
-          G3 = within g2 whole
+          G3 = within (passed κs.1.0 (Rows.any_gone (key_ty Syntax.erased))) whole
 
           abbrev G4 : Row.Cx
-          G4 = within g3 whole
+          G4 = within (passed κs.1.0 (Rows.whole (key_here κs.1.0))) whole
 
           abbrev G5 : Row.Cx
-          G5 = within g4 whole
+          G5 = within (passed κs.1.0 key_any) whole
 
           abbrev G6 : Row.Cx
-          G6 = within g5 whole
+          G6 = within (called κs.1.0 lent_any key_any) whole
 
           abbrev G7 : Row.Cx
-          G7 = within g6 whole
+          G7 = within (called κs.1.0 lent_any (Rows.whole (key_here κs.1.0))) whole
 
           abbrev G8 : Row.Cx
-          G8 = within g7 whole
+          G8 = within (called κs.1.0 (Rows.whole (lent_row κs.0)) (Rows.whole (key_here κs.1.0)))
+              whole
 
           abbrev G9 : Row.Cx
-          G9 = within g8 whole
+          G9 = within (called κs.1.0 (Rows.whole (lent_row κs.0))
+              (Rows.any_gone (key_ty Syntax.erased))) whole
 
           abbrev G10 : Row.Cx
-          G10 = within g1 whole
-
-          abbrev G11 : Row.Cx
-          G11 = within g1 Row.off
+          G10 = within (rows-1 κs.0 κs.1.0) whole
 
           abbrev Δ0 : Typed.Outs
           Δ0 = record { next = Option'.none; exits = []; returns = Option'.some G1 }
 
           module _ {M : Type 1} {𝓤 : Ura.Ura M} (𝓛 : Logic'.Logic 𝓤) (𝓣 : Wp.Tables 𝓤 𝓛.H)
-              (known : Knowns 𝓛 𝓣) (lives : BorrowLft.◌⊑◌ κs.1.1.0 V.lives × Unit {0})
+              (known : Known-0 𝓛 𝓣) (lives : BorrowLft.◌⊑◌ κs.1.1.0 V.lives × Unit {0})
               (bs : List Nat.ℕ) (bd : Lifetimes.AllOutlive 3 (Kinds.os_r r) κs) where
             abbrev E : Wp.Env 𝓤 𝓛.H
-            E = Frame.EnvOf 𝓛 ((Kinds.ty_r r) ∷ (Enter.tys_p ps xs)) bs
+            E = borrow.Fn.Frame.EnvOf 𝓛 ((Kinds.ty_r r) ∷ (borrow.Fn.Enter.tys_p ps xs)) bs
 
-            d7 : Typed.Typed 𝓛 𝓣 E G4 b4 Δ0 at7
-            d7 = Typed.g_pre_lem 𝓛 𝓣 E G4 G5 b4 Δ0 (Typed.pass Cx4 Cx5 s3) at6
-                (AtSlots.g_as_by 𝓛 E (λ ρ. ◌≡◌ (Row.lft ρ 1) κs.1.0) G4 4
-                (ValueAt.val_at 4 (λ κc. key_row
-                (κc.1.0)) (Option.the_type (text_at []).row).D (λ κc v. v) (0 ∷ 1 ∷ 2 ∷ 3 ∷ [])
-                (key_ty Syntax.erased)) (λ x. x) (Call.pin_lease 𝓛 1 G4.slots κs.1.0
-                qs.1.0 refl) (ValueAt.to_slots_Val 𝓛 4 Fml.Lft (λ κc. κc.1.0) (λ c. key_row c)
-                (Option.the_type (text_at []).row).D (λ c v. v) (0 ∷ 1 ∷ 2 ∷ 3 ∷ [])
-                κs.1.0 (key_ty Syntax.erased) (key_here κs.1.0) refl refl (λ x. x) λ x vs. subst
-                {A = Fml.Fml} (λ g. Logic.ent 𝓤 (Logic'.sem 𝓛 ((key_here
-                (κs.1.0)).own_val x vs)) (Logic'.sem 𝓛 g)) {x = (key_here κs.1.0).own_val x vs}
-                {y = let c : Fml.Lft = κs.1.0 in (key_row c).own_val x vs} refl
-                (Logic.id⊢ 𝓤 (Logic'.sem 𝓛 ((key_here κs.1.0).own_val x vs)))))
-                (Typed.s_seq 𝓛 𝓣 E G5 G6 b2 b3 Δ0 (Typed.both s4) at5
-                (So.so_call 4 whole-0 part-0
-                named-0 lender-0 rest-0 r-0 (AtSlots.one_type 4 named-0) the-claims.2
-                (λ κs a. BorrowLft.◌⊑◌ κs.1.1.0 V.lives → the-claims.0 κs a) the-claims.1 G5 (
+            pub typed : Typed.Typed 𝓛 𝓣 E (Function.Γin 3 ps r xs m κs qs) body
+                (Function.Δret 3 ps r xs m κs qs) Φ
+            typed =
+                let field = StructFields.f_mut_spent 4 0 tt (Signature.plain λ κs. value)
+                (Syntax.wrote (Syntax.ty_param 0)) λ κs. refl in
+                let sum = denote.Enum.Enum.Sum (borrow.Kind.EnumInner.Tss ([], ([], ([], ([], tt))))
+                ([] ∷ (field ∷ []) ∷ [])) in
+                let result = EnumTo.r_enum_to (let Y : EnumTo.EnumTo 4 = record {
+                  ν = (Option.enum
+                      (Field.mut_ref_field record { mir = Syntax.named 0; lft = [] } value
+                      tt).row).name;
+                  args = [];
+                  types = λ κs. (lent_at κs.0).types;
+                  keeps = Exit.no;
+                  variants = [] ∷ (field ∷ []) ∷ [];
+                  D = (lent_at []).D;
+                  to = λ κs. (lent_at κs.0).to;
+                  one = λ κs. (lent_at κs.0).to_one;
+                  mir = lent_ty;
+                  mir_is = λ κs. refl;
+                  few = λ κs. tt;
+                  Vs = sum;
+                  ot = AtSlots.one_type 4 sum;
+                } in Y) λ M 𝓤 𝓛. (
+                  tt,
+                  (
+                    (
+                      StructFields.f_mut-Lawful 4 0 tt (Signature.plain λ κs. value)
+                          (Syntax.wrote (Syntax.ty_param 0)) (λ κs. refl) 𝓛,
+                      tt,
+                    ),
+                    tt,
+                  ),
+                ) in
+                let str = λ (c : Fml.Lft). Str.str_laws record { mir = Syntax.named 1; lft = c } in
+                let laws = λ (c : Fml.Lft). TheLaws.the_laws (text_at c).row (str c)
+                (Laws'.field_told (text_at c)
+                (Text.str-laws record { mir = Syntax.named 1; lft = c })) in
+                let copy = λ (c : Fml.Lft). TheLaws.the_copy (text_at c).row (str c)
+                (Str.str_copy record { mir = Syntax.named 1; lft = c }) in
+                Typed.g_pre_lem 𝓛 𝓣 E G0 G2 _ Δ0 (λ Ψ. Ψ) _
+                (Lifetime.g_static 𝓛 E G0 3 (tt, (tt, (tt, (tt, (tt, tt))))))
+                (Typed.s_seq 𝓛 𝓣 E G2 G3 _ _ Δ0 (Typed.pass Cx0 Cx3 s1) _
+                (Pass.t_ref_pass 𝓛 E 𝓣 G2 1 3 0 node ty-3 (ref_ty (Syntax.named 0))
+                (ref_ty Syntax.erased) (λ x. x)
+                (Reads.as_is 𝓛 (Rows.mref node (ref_ty (Syntax.named 0)) 0))
+                (Reads.room_gone 𝓛 (ref_ty Syntax.erased)) refl refl λ b o. tt)
+                (Typed.s_seq 𝓛 𝓣 E G3 G4 _ _ Δ0 (Typed.pass Cx3 Cx4 s2) _
+                (LocalCopy.t_val_copy 𝓛 E 𝓣 (λ ρ. Row.lft ρ 1 ≡ κs.1.0) G3 2 4 (key_row κs.1.0)
+                (key_ty (Syntax.named 1)) (key_ty Syntax.erased) (Rows.whole (key_row κs.1.0))
+                (Rows.whole (key_here κs.1.0)) (λ x. x) (λ x. x) (λ x. x) refl
+                (Call.pin_lease 𝓛 1 G3.slots κs.1.0 qs.1.0 refl)
+                (Yields.Yields-copy 𝓛 (λ ρ. Row.lft ρ 1 ≡ κs.1.0) (key_row κs.1.0) refl
+                ((borrow.Table.Copies.c_enum (Option.the_type (text_at κs.1.0).row) (laws κs.1.0)
+                (copy κs.1.0)).copy 𝓛)
+                (Rows.whole (key_row κs.1.0)) (λ x. x) (λ x. x)
+                (λ ρ told. Local.mem_whole 𝓛 (key_row κs.1.0) ρ)
+                λ ρ told. Local.whole_mem 𝓛 (key_row κs.1.0) ρ)
+                (Reads.room_gone 𝓛 (key_ty Syntax.erased))
+                (Yields.Makes-mem 𝓛 (λ ρ. Row.lft ρ 1 ≡ κs.1.0) (key_here κs.1.0) refl
+                (Rows.whole (key_here κs.1.0)) (λ x. x)
+                λ ρ told. Local.whole_mem 𝓛 (key_here κs.1.0) ρ) refl refl)
+                (Typed.g_pre_lem 𝓛 𝓣 E G4 G5 _ Δ0 (Typed.pass Cx4 Cx5 s3) _
+                (AtSlots.g_as_by 𝓛 E (λ ρ. Row.lft ρ 1 ≡ κs.1.0) G4 4 key_any (λ x. x)
+                (Call.pin_lease 𝓛 1 G4.slots κs.1.0 qs.1.0 refl)
+                (ValueAt.to_slots_Val 𝓛 4 Fml.Lft (λ κc. κc.1.0) (λ c. key_row c)
+                (Option.the_type (text_at []).row).D (λ c v. v) all κs.1.0 (key_ty Syntax.erased)
+                (key_here κs.1.0) refl refl (λ x. x)
+                λ x vs. Logic.id⊢ 𝓤 (Logic'.sem 𝓛 ((key_here κs.1.0).own_val x vs))))
+                (Typed.s_seq 𝓛 𝓣 E G5 G6 _ _ Δ0 (Typed.both s4) _
+                (So.so_call 4 node value named-0 lender-0 rest-0 r-0 (AtSlots.one_type 4 named-0)
+                the-claims.2 (λ κs a. BorrowLft.◌⊑◌ κs.1.1.0 V.lives → the-claims.0 κs a)
+                the-claims.1 G5 (
                   record { pos = 3; ty = ref_ty Syntax.erased; ref = λ x. x },
                   (record { pos = 4; ty = key_ty Syntax.erased; at = λ x. x }, tt),
-                ) 0
-                (0 ∷ 1 ∷ 2 ∷ 3 ∷ [])
-                lent_ty 𝓛 𝓣 E (Plain.t_call_plain_by_Pin 𝓛 𝓣 4 ps_on-0 r-0 the-claims.0
-                (So.WithSo 4 whole-0 part-0 named-0 lender-0 rest-0 r-0 (AtSlots.one_type 4
-                named-0) the-claims.2 the-claims.0 the-claims.1)
-                (Syntax.fn "mq_tree::tree::node::Node::lend" (
-                  Syntax.tcons (Param.layout V) (Syntax.tcons (Syntax.ty_struct
-                      [] Syntax.tnil) Syntax.tnil),
-                  Syntax.dcons (Syntax.impl ("mq_tree::tree::node::lend::DownDescend::descend" ∷ [])
-                      (Syntax.tcons (Param.layout V) Syntax.tnil)
-                      Syntax.dnil) Syntax.dnil,
-                )) known (λ κs. BorrowLft.◌⊑◌ κs.1.1.0 V.lives) E (λ pos β. β) G5 (
-                  record {
-                    pos = 3;
-                    ty = ref_ty Syntax.erased;
-                    ref = λ x. x;
-                  },
+                ) 0 all lent_ty 𝓛 𝓣 E
+                (Plain.t_call_plain_by_Pin 𝓛 𝓣 4 ps_on-0 r-0 the-claims.0 told lend known
+                (λ κs. BorrowLft.◌⊑◌ κs.1.1.0 V.lives) E (λ pos β. β) G5 (
+                  record { pos = 3; ty = ref_ty Syntax.erased; ref = λ x. x },
                   (record { pos = 4; ty = key_ty Syntax.erased; at = λ x. x }, tt),
-                ) 0 (0 ∷ 1 ∷ 2 ∷ 3 ∷ []) (Call.within_lease 𝓛 2 G5.slots κs.1.1.0 qs.1.1.0 refl
-                V.lives lives.0) (Call.sub_id 𝓛 G5.slots) (
+                ) 0 all (Call.within_lease 𝓛 2 G5.slots κs.1.1.0 qs.1.1.0 refl V.lives lives.0)
+                (Call.sub_id 𝓛 G5.slots) (
                   Reads.as_is 𝓛 (Rows.mref node (ref_ty Syntax.erased) 0),
                   Reads.reads_mref 𝓛 node (ref_ty Syntax.erased) 0,
                   refl,
@@ -597,158 +475,48 @@ module _ (V : RattleType.RattleType) (LV : Laws'.Laws V) where
                       mir = key_ty (Syntax.named 1);
                       one = λ κs. refl;
                       mir_is = λ κs. refl;
-                      val = λ κs. Laws.val (Option.the_type (text_at κs.1.0).row)
-                          (TheLaws.the_laws (text_at κs.1.0).row (Str.str_laws record {
-                            mir =
-                                Syntax.named 1;
-                            lft = κs.1.0;
-                          }) (Laws'.field_told (text_at κs.1.0)
-                          (Text.str-laws record { mir = Syntax.named 1; lft = κs.1.0 })));
-                      tells = λ κs.
-                          Laws.tells (Option.the_type (text_at κs.1.0).row)
-                          (TheLaws.the_laws (text_at κs.1.0).row (Str.str_laws record {
-                            mir = Syntax.named 1;
-                            lft = κs.1.0;
-                          }) (Laws'.field_told (text_at κs.1.0)
-                          (Text.str-laws record { mir = Syntax.named 1; lft = κs.1.0 })));
-                      still = λ κs. Laws.still (Option.the_type
-                          (text_at κs.1.0).row)
-                          (TheLaws.the_copy (text_at κs.1.0).row
-                          (Str.str_laws record { mir = Syntax.named 1; lft = κs.1.0 })
-                          (Str.str_copy record {
-                            mir
-                                = Syntax.named 1;
-                            lft = κs.1.0;
-                          })) Exit.yes;
+                      val = λ κs. Laws.val (Option.the_type (text_at κs.1.0).row) (laws κs.1.0);
+                      tells = λ κs. Laws.tells (Option.the_type (text_at κs.1.0).row) (laws κs.1.0);
+                      still = λ κs. Laws.still (Option.the_type (text_at κs.1.0).row) (copy κs.1.0)
+                          Exit.yes;
                       D = (Option.the_type (text_at []).row).D;
                       ot = AtSlots.one_type 4 (Option.the_type (text_at []).row).D;
                     } in Y) record {
-                      copies = λ κs. Laws.copy (Option.the_type (text_at κs.1.0).row)
-                          (TheLaws.the_copy (text_at κs.1.0).row (Str.str_laws record {
-                            mir =
-                                Syntax.named 1;
-                            lft = κs.1.0;
-                          }) (Str.str_copy record { mir = Syntax.named 1; lft = κs.1.0 })) 𝓛;
-                      lawful = λ κs. Loose.loose_lawful (Option.the_type
-                          (text_at κs.1.0).row)
-                          (TheLaws.the_loose (text_at κs.1.0).row
-                          (Str.str_laws record { mir = Syntax.named 1; lft = κs.1.0 })) tt 𝓛;
-                    } (0 ∷ 1 ∷ 2 ∷ 3 ∷
-                        []) (key_ty Syntax.erased),
+                      copies = λ κs. Laws.copy (Option.the_type (text_at κs.1.0).row) (copy κs.1.0)
+                          𝓛;
+                      lawful = λ κs. Loose.loose_lawful (Option.the_type (text_at κs.1.0).row)
+                          (TheLaws.the_loose (text_at κs.1.0).row (str κs.1.0)) tt 𝓛;
+                    } all (key_ty Syntax.erased),
                     refl,
                     tt,
                   ),
                 ) (Reads.room_gone 𝓛 lent_ty) (tt, (tt, (tt, (tt, tt))))
-                (Shorter.Told-bounds 𝓛 4 G5.slots (0 ∷ 1 ∷ 2 ∷ 3 ∷ [])
-                (Kinds.os_r r-0) (Way.Told-and 𝓛 G5.slots (Shorter.Below 2 0) (λ ρ. Unit)
-                (Shorter.Told-Below 𝓛 G5.slots 2 0 κs.1.1.0 κs.0 (Call.pin_lease 𝓛 2 G5.slots
-                κs.1.1.0 qs.1.1.0 refl) (Call.pin_lease 𝓛 0 G5.slots κs.0 qs.0 refl) bd.0)
-                (Own.Told-none 𝓛 G5.slots))) refl λ κs' x v i. Result.res_typed 𝓛 4 κs'
-                (EnumTo.r_enum_to (let Y : EnumTo.EnumTo 4 = record {
-                  ν = (Option.enum (Field.mut_ref_field record { mir = Syntax.named 0; lft = [] }
-                      value
-                      tt).row).name;
-                  args = [];
-                  types = λ κs. (lent_at κs.0).types;
-                  keeps = Exit.no;
-                  variants = ◌∷◌ [] (((StructFields.f_mut_spent 4 0 tt (Signature.plain λ
-                      κs. Param.param 0 V) (Syntax.wrote (Syntax.ty_param 0)) λ κs. refl) ∷ [])
-                      ∷ []);
-                  D = (lent_at []).D;
-                  to = λ κs. (lent_at κs.0).to;
-                  one = λ κs.
-                      (lent_at κs.0).to_one;
-                  mir = lent_ty;
-                  mir_is = λ κs. refl;
-                  few = λ κs. tt;
-                  Vs = Enum.Sum (EnumInner.Tss ([], ([], ([], ([], tt)))) ([] ∷
-                      ((StructFields.f_mut_spent 4 0 tt (Signature.plain λ κs. Param.param 0 V)
-                      (Syntax.wrote (Syntax.ty_param 0)) λ κs. refl) ∷ []) ∷ []));
-                  ot =
-                      AtSlots.one_type 4
-                      (Enum.Sum (EnumInner.Tss ([], ([], ([], ([], tt))))
-                      ([] ∷ ((StructFields.f_mut_spent 4 0 tt
-                      (Signature.plain λ κs. Param.param 0 V)
-                      (Syntax.wrote (Syntax.ty_param 0)) λ κs. refl) ∷ []) ∷ [])));
-                } in Y) λ M 𝓤 𝓛. (
-                  tt,
-                  (
-                    (
-                      StructFields.f_mut-Lawful 4 0 tt (Signature.plain λ κs. Param.param
-                          0 V) (Syntax.wrote (Syntax.ty_param 0)) (λ κs. refl) 𝓛,
-                      tt,
-                    ),
-                    tt,
-                  ),
-                )) x v i (0 ∷ 1 ∷ 2 ∷ 3 ∷ []) lent_ty refl)) (Typed.g_pre_lem 𝓛 𝓣 E G6 G7 b3 Δ0
-                (Typed.pass Cx6 Cx7 s5) at4
-                (AtSlots.g_as_by 𝓛 E (λ ρ. ◌≡◌ (Row.lft ρ 1) κs.1.0) G6 4
-                (Rows.whole (key_here κs.1.0)) (λ x. x) (Call.pin_lease 𝓛 1
-                G6.slots κs.1.0 qs.1.0 refl)
+                (Shorter.Told-bounds 𝓛 4 G5.slots all (Kinds.os_r r-0)
+                (borrow.Rule.Way.Told-and 𝓛 G5.slots (Shorter.Below 2 0) (λ ρ. Unit)
+                (Shorter.Told-Below 𝓛 G5.slots 2 0 κs.1.1.0 κs.0
+                (Call.pin_lease 𝓛 2 G5.slots κs.1.1.0 qs.1.1.0 refl)
+                (Call.pin_lease 𝓛 0 G5.slots κs.0 qs.0 refl) bd.0) (Own.Told-none 𝓛 G5.slots)))
+                refl λ κs' x v i. borrow.Fn.Result.res_typed 𝓛 4 κs' result x v i all lent_ty refl))
+                (Typed.g_pre_lem 𝓛 𝓣 E G6 G7 _ Δ0 (Typed.pass Cx6 Cx7 s5) _
+                (AtSlots.g_as_by 𝓛 E (λ ρ. Row.lft ρ 1 ≡ κs.1.0) G6 4 (Rows.whole (key_here κs.1.0))
+                (λ x. x) (Call.pin_lease 𝓛 1 G6.slots κs.1.0 qs.1.0 refl)
                 (ValueAt.of_slots_Val 𝓛 4 Fml.Lft (λ κc. κc.1.0) (λ c. key_row c)
-                (Option.the_type (text_at []).row).D (λ c v. v) (0 ∷
-                1 ∷ 2 ∷ 3 ∷ []) κs.1.0 (key_ty Syntax.erased) (key_here κs.1.0) refl refl (λ x. x)
-                λ x vs. subst {A = Fml.Fml} (λ g. Logic.ent 𝓤 (Logic'.sem 𝓛
-                g) (Logic'.sem 𝓛 ((key_here κs.1.0).own_val x vs)))
-                {x = (key_here κs.1.0).own_val x vs}
-                {y = let c : Fml.Lft = κs.1.0 in (key_row c).own_val x
-                vs} refl (Logic.id⊢ 𝓤 (Logic'.sem 𝓛 ((key_here κs.1.0).own_val x vs)))))
-                (Typed.g_pre_lem 𝓛 𝓣 E G7 G8 b3 Δ0 (Typed.pass Cx7 Cx8 s6) at3 (AtSlots.g_as_by
-                𝓛 E (λ ρ. ◌≡◌ (Row.lft ρ 0) κs.0) G7 0 (Rows.whole (lent_row κs.0)) (λ x. x)
-                (Call.pin_lease 𝓛 0 G7.slots κs.0 qs.0 refl) (ValueAt.of_slots_Val 𝓛 4
-                Fml.Lft (λ κc. κc.0) (λ c. lent_row c) (lent_at []).D (λ c v. v)
-                (0 ∷ 1 ∷ 2 ∷ 3 ∷ []) κs.0 lent_ty (lent_row κs.0) refl refl (λ x. x) λ x vs.
-                subst {A = Fml.Fml} (λ g. Logic.ent 𝓤 (Logic'.sem 𝓛 g)
-                (Logic'.sem 𝓛 ((lent_row κs.0).own_val x vs)))
-                {x = (lent_row κs.0).own_val x vs} {y =
-                let c : Fml.Lft = κs.0 in (lent_row c).own_val x vs} refl
-                (Logic.id⊢ 𝓤 (Logic'.sem 𝓛 ((lent_row κs.0).own_val x vs)))))
-                (Typed.g_pre_lem 𝓛 𝓣 E G8 G9
-                b3 Δ0 (Typed.pass Cx8 Cx9 s7) at2
+                (Option.the_type (text_at []).row).D (λ c v. v) all κs.1.0 (key_ty Syntax.erased)
+                (key_here κs.1.0) refl refl (λ x. x)
+                λ x vs. Logic.id⊢ 𝓤 (Logic'.sem 𝓛 ((key_here κs.1.0).own_val x vs))))
+                (Typed.g_pre_lem 𝓛 𝓣 E G7 G8 _ Δ0 (Typed.pass Cx7 Cx8 s6) _
+                (AtSlots.g_as_by 𝓛 E (λ ρ. Row.lft ρ 0 ≡ κs.0) G7 0 (Rows.whole (lent_row κs.0))
+                (λ x. x) (Call.pin_lease 𝓛 0 G7.slots κs.0 qs.0 refl)
+                (ValueAt.of_slots_Val 𝓛 4 Fml.Lft (λ κc. κc.0) (λ c. lent_row c) (lent_at []).D
+                (λ c v. v) all κs.0 lent_ty (lent_row κs.0) refl refl (λ x. x)
+                λ x vs. Logic.id⊢ 𝓤 (Logic'.sem 𝓛 ((lent_row κs.0).own_val x vs))))
+                (Typed.g_pre_lem 𝓛 𝓣 E G8 G9 _ Δ0 (Typed.pass Cx8 Cx9 s7) _
                 (Scalar.g_room 𝓛 E G8 4 (key_ty Syntax.erased)
                 (Local.room_whole 𝓛 (key_here κs.1.0) (key_ty Syntax.erased) refl))
-                (Typed.g_pre_lem 𝓛 𝓣 E G9 G10 b3 Δ0 (Typed.pass Cx9 Cx10 s8) at1
-                (Home.g_owing_home 𝓛 E G9 1 3 (ref_ty (Syntax.named 0)) (ref_ty Syntax.erased)
-                node hands
-                (λ x. x) (Reads.room_gone 𝓛 (ref_ty (Syntax.named 0)))
-                (Reads.as_is 𝓛 (Maybe.waits_if node value (lent_at []).D
-                (ref_ty Syntax.erased))))
-                (Typed.g_pre_lem 𝓛 𝓣 E G10 G11 b3 Δ0 (λ Ψ. Ψ) at0
+                (Typed.g_pre_lem 𝓛 𝓣 E G9 G10 _ Δ0 (Typed.pass Cx9 Cx1 s8) _
+                (Home.g_owing_home 𝓛 E G9 1 3 (ref_ty (Syntax.named 0)) (ref_ty Syntax.erased) node
+                hands (λ x. x) (Reads.room_gone 𝓛 (ref_ty (Syntax.named 0)))
+                (Reads.as_is 𝓛 (Maybe.waits_if node value (lent_at []).D (ref_ty Syntax.erased))))
+                (Typed.g_pre_lem 𝓛 𝓣 E G10 G1 _ Δ0 (λ Ψ. Ψ) _
                 (Lifetime.g_forget 𝓛 E G10 3 (Row.lease [] Fraction.full_share) refl)
-                (Typed.t_return 𝓛 𝓣 E Δ0
-                tt)))))))
-
-            d10 : Typed.Typed 𝓛 𝓣 E G0 b6 Δ0 at10
-            d10 = Typed.g_pre_lem 𝓛 𝓣 E G0 G2 b6 Δ0 (λ Ψ. Ψ) at9
-                (Lifetime.g_static 𝓛 E G0 3 (tt, (tt, (tt, (tt, (tt, tt))))))
-                (Typed.s_seq 𝓛 𝓣 E G2 G3 b0 b5 Δ0
-                (Typed.pass Cx0 Cx3 s1) at8
-                (Pass.t_ref_pass 𝓛 E 𝓣 G2 1 3 0 node ty-3 (ref_ty (Syntax.named 0))
-                (ref_ty Syntax.erased) (λ x. x) (Reads.as_is 𝓛 (Rows.mref
-                node (ref_ty (Syntax.named 0)) 0)) (Reads.room_gone 𝓛 (ref_ty Syntax.erased)) refl
-                refl λ b o. tt) (Typed.s_seq 𝓛 𝓣 E G3 G4 b1 b4 Δ0 (Typed.pass Cx3 Cx4
-                s2) at7 (LocalCopy.t_val_copy 𝓛 E 𝓣 (λ ρ. ◌≡◌ (Row.lft ρ 1) κs.1.0) G3 2 4
-                (key_row κs.1.0) (key_ty (Syntax.named 1)) (key_ty Syntax.erased)
-                (Rows.whole (key_row κs.1.0)) (Rows.whole (key_here κs.1.0)) (λ x. x) (λ x. x)
-                (λ x. x) refl (Call.pin_lease 𝓛 1 G3.slots κs.1.0 qs.1.0 refl)
-                (Yields.Yields-copy 𝓛 (λ ρ. ◌≡◌ (Row.lft ρ 1) κs.1.0) (key_row κs.1.0) refl
-                ((Copies.c_enum (Option.the_type (text_at κs.1.0).row) (TheLaws.the_laws
-                (text_at κs.1.0).row (Str.str_laws record { mir = Syntax.named 1; lft = κs.1.0 })
-                (Laws'.field_told (text_at κs.1.0) (Text.str-laws record {
-                  mir =
-                      Syntax.named 1;
-                  lft = κs.1.0;
-                }))) (TheLaws.the_copy (text_at κs.1.0).row
-                (Str.str_laws record { mir = Syntax.named 1; lft = κs.1.0 }) (Str.str_copy
-                record { mir = Syntax.named 1; lft = κs.1.0 }))).copy 𝓛)
-                (Rows.whole (key_row κs.1.0)) (λ x. x) (λ x. x)
-                (λ ρ told. Local.mem_whole 𝓛 (key_row
-                (κs.1.0)) ρ) λ ρ told. Local.whole_mem 𝓛 (key_row κs.1.0) ρ)
-                (Reads.room_gone 𝓛 (key_ty Syntax.erased))
-                (Yields.Makes-mem 𝓛 (λ ρ. ◌≡◌ (Row.lft ρ 1)
-                κs.1.0) (key_here κs.1.0) refl (Rows.whole (key_here κs.1.0)) (λ x. x) λ ρ told.
-                Local.whole_mem 𝓛 (key_here κs.1.0) ρ) refl refl) d7))
-
-            pub typed : Typed.Typed 𝓛 𝓣 E (Function.Γin 3 ps r xs m κs qs) b6
-                (Function.Δret 3 ps r xs m κs qs) Φ
-            typed = d10
+                (Typed.t_return 𝓛 𝓣 E Δ0 tt))))))))))
