@@ -1,6 +1,5 @@
 -- Filters that a rule carries.
-use Rattle.std.proofs.Common.{◌≡◌, ℕ, Bool, true, false, ◌&&◌, ◌||◌, List, ◌++◌, Bor, refl, ap}
-use Rattle.std.proofs.Common.{sym, ◌∙◌}
+use Rattle.std.proofs.Common.{◌≡◌, ℕ, true, ◌&&◌, ◌||◌, List, ◌++◌, Bor, refl, ap, sym, ◌∙◌, arith}
 use Rattle.std.proofs.Common.{Option, Some, None, Result, Ok, Err}
 use Rattle.std.specs.Prelude.{IfOk, IfSome}
 use Rattle.std.proofs.lemmas.Bool.{and_parts}
@@ -8,7 +7,7 @@ use Rattle.std.proofs.lemmas.List.Folds.{list_any-append}
 use Rattle.mq_topic.specs.Levels.{levels}
 use Rattle.mq_topic.specs.Matching.{matches}
 use Rattle.mq_topic.specs.Texts.{is_name}
-use Rattle.mq_rename.specs.Lists.{has_long, is_long}
+use Rattle.mq_rename.specs.Lists.{has_long}
 use Rattle.mq_rename.specs.Meets.{matches_if_any}
 use Rattle.mq_rename.specs.Renames.{Renaming, is_rename, new_name}
 use Rattle.mq_rename.specs.declared.fault.MeetFault.{MeetFault}
@@ -20,16 +19,7 @@ use Rattle.mq_regions.specs.declared.side.Side.TheVariants.{Old, New}
 long_left : (rule : Bor Renaming) (filter : List ℕ)
     → (has_long (levels rule.now.left) || has_long (levels filter)) ≡ true
     → (has_long (levels rule.now.left ++ levels rule.now.right) || has_long (levels filter)) ≡ true
-long_left rule filter h =
-    ap (λ b. b || has_long (levels filter))
-    (list_any-append is_long (levels rule.now.left) (levels rule.now.right))
-    ∙ more (has_long (levels rule.now.left)) (has_long (levels rule.now.right))
-    (has_long (levels filter)) h
-  where
-    more : (a b c : Bool) → (a || c) ≡ true → ((a || b) || c) ≡ true
-    more true b c h = refl
-    more false true c h = refl
-    more false false c h = h
+long_left rule filter h = grind (arith, list_any-append)
 
 abbrev LongIfAny : Bor Renaming → List ℕ → Option (List ℕ) → Type 0
 LongIfAny rule filter found = IfSome found (λ f. has_long (levels f) ≡ true
@@ -56,8 +46,7 @@ cut_carried rule filter (Some cut) same long = record {
       same n h ∙ ap (λ b. b && matches (levels filter) (levels n)) g
       ∙ ap (λ t. matches (levels filter) (levels t)) is;
   inside = λ n h e.
-      (and_parts (matches (levels rule.now.left) (levels n)) (matches (levels filter) (levels n))
-      (sym (same n h) ∙ e)).0;
+      (and_parts (matches (levels rule.now.left) (levels n)) _ (sym (same n h) ∙ e)).0;
   rule = refl;
   long = λ h. long_left rule filter (long h);
 }

@@ -1,7 +1,6 @@
 -- Rows that are made of one row.
-use Rattle.std.proofs.Common.{◌≡◌, ℕ, Bool, true, false, ◌&&◌, ◌||◌}
-use Rattle.std.proofs.Common.{List, [], ◌∷◌, ◌++◌, refl, ap, sym, ◌∙◌}
-use Rattle.std.proofs.Common.{Option, Some, None}
+use Rattle.std.proofs.Common.{◌≡◌, ℕ, Bool, true, false, ◌&&◌, ◌||◌, List, [], ◌∷◌, ◌++◌, refl, ap}
+use Rattle.std.proofs.Common.{sym, ◌∙◌, arith, Option, Some, None}
 use Rattle.std.specs.Prelude.{codes}
 use Rattle.std.specs.List.{list_any}
 use Rattle.std.specs.Option.{option_to_list}
@@ -14,8 +13,7 @@ use Rattle.mq_topic.specs.Levels.{levels}
 use Rattle.mq_topic.specs.Matching.{matches}
 use Rattle.mq_topic.specs.Texts.{is_name}
 use Rattle.mq_topic.proofs.ByteLemmas.{text_flip, text_is}
-use Rattle.mq_acl.specs.Access.{applies, concerns, is_user}
-use Rattle.mq_acl.specs.Access.{pattern_level_matches}
+use Rattle.mq_acl.specs.Access.{applies, concerns, pattern_level_matches}
 use Rattle.mq_acl.specs.Lines as lines
 use Rattle.mq_acl.specs.Rows.{Who, Anonymous, Named, Everyone, AclRow}
 use Rattle.mq_acl.specs.RowsByOwner.{is_everyones}
@@ -46,12 +44,12 @@ asked_name New (Kept filter) n m h e = let is : n ≡ m = cc in ap is_name (sym 
 asked_name New Same n m h e = let is : n ≡ m = cc in ap is_name (sym is) ∙ h
 
 -- ---- groups
-pub group_none : (side : Side) (kind : RegionKind) (row : Row)
-    (test : Option (List ℕ) → List ℕ → Bool)
+pub group_none : {side : Side} {kind : RegionKind} (row : Row)
+    {test : Option (List ℕ) → List ℕ → Bool}
     → ((n m : List ℕ) (u : Option (List ℕ)) → is_name n ≡ true → in_kind kind n ≡ true
     → side_name side kind n ≡ Some m → test u m ≡ false)
     → IsGroup side kind row [] test
-group_none side kind row test f = record {
+group_none row f = record {
   versions = tt;
   same = λ x n m u h g e. sym (f n m u h g e);
   outside = λ x n u h g. refl;
@@ -59,11 +57,11 @@ group_none side kind row test f = record {
 }
 
 -- the test, said otherwise
-pub group_by : (side : Side) (kind : RegionKind) (row : Row) (made : List Row)
-    (s t : Option (List ℕ) → List ℕ → Bool)
+pub group_by : {side : Side} {kind : RegionKind} {row : Row} {made : List Row}
+    {s t : Option (List ℕ) → List ℕ → Bool}
     → ((u : Option (List ℕ)) (m : List ℕ) → s u m ≡ t u m)
     → IsGroup side kind row made s → IsGroup side kind row made t
-group_by side kind row made s t f is = record {
+group_by f is = record {
   versions = is.versions;
   same = λ x n m u h g e. is.same x n m u h g e ∙ f u m;
   outside = is.outside;
@@ -80,21 +78,21 @@ pub any_views : (p : AclRow → Bool) (xs ys : List Row)
 any_views p xs ys =
     ap (list_any p) (map-append row_view xs ys) ∙ list_any-append p (row_views xs) (row_views ys)
 
-pub group_append : (side : Side) (kind : RegionKind) (row : Row) (xs ys : List Row)
-    (s t : Option (List ℕ) → List ℕ → Bool) → IsGroup side kind row xs s
+-- none passes, where none of either list does
+pub no_views : (p : AclRow → Bool) (xs ys : List Row) → list_any p (row_views xs) ≡ false
+    → list_any p (row_views ys) ≡ false → list_any p (row_views (xs ++ ys)) ≡ false
+no_views p xs ys f g = any_views p xs ys ∙ or_from _ _ f g
+
+pub group_append : {side : Side} {kind : RegionKind} {row : Row} {xs ys : List Row}
+    {s t : Option (List ℕ) → List ℕ → Bool} → IsGroup side kind row xs s
     → IsGroup side kind row ys t → IsGroup side kind row (xs ++ ys) (λ u m. s u m || t u m)
-group_append side kind row xs ys s t f g = record {
+group_append {row = row} {xs} {ys} f g = record {
   versions = versions_append row xs ys f.versions g.versions;
   same = λ x n m u h i e.
       any_views (concerns x u n) xs ys ∙ (λ j. f.same x n m u h i e j || g.same x n m u h i e j);
   outside = λ x n u h i.
-      any_views (concerns x u n) xs ys
-      ∙ or_from (list_any (concerns x u n) (row_views xs))
-      (list_any (concerns x u n) (row_views ys))
-      (f.outside x n u h i) (g.outside x n u h i);
-  short = λ h.
-      any_views is_long_row xs ys
-      ∙ or_from (has_long_row (row_views xs)) (has_long_row (row_views ys)) (f.short h) (g.short h);
+      no_views (concerns x u n) xs ys (f.outside x n u h i) (g.outside x n u h i);
+  short = λ h. no_views is_long_row xs ys (f.short h) (g.short h);
 }
 
 -- ---- rows of one user name, or for clients without one
@@ -109,12 +107,12 @@ plain_concerns x u n (Named name) access filter h =
 plain_concerns x u n Everyone access filter h = absurd (let k : true ≡ false = h in cc)
 
 -- what a row that is carried concerns
-made_concerns : (side : Side) (kind : RegionKind) (row : Row) (who : Who) (filter : List ℕ)
-    (made : Row) (x : List ℕ) (u : Option (List ℕ)) (n : List ℕ) → is_everyones who ≡ false
+made_concerns : {side : Side} {kind : RegionKind} {row : Row} {who : Who} {filter : List ℕ}
+    {made : Row} (x : List ℕ) (u : Option (List ℕ)) (n : List ℕ) → is_everyones who ≡ false
     → IsCarriedRow side kind row who filter made
     → list_any (concerns x u n) (row_views (made ∷ []))
     ≡ (applies u who && matches (levels made.filter) (levels n))
-made_concerns side kind row who filter made x u n h is =
+made_concerns {who = who} {made = made} x u n h is =
     or-false (concerns x u n (row_view made))
     ∙ ap (λ w. concerns x u n (record {
       who = w;
@@ -124,52 +122,43 @@ made_concerns side kind row who filter made x u n h is =
     ∙ plain_concerns x u n who (access_view made.access) made.filter h
 
 -- a row that is carried is short
-pub made_short : (side : Side) (kind : RegionKind) (row : Row) (who : Who) (filter : List ℕ)
-    (made : Row) → IsCarriedRow side kind row who filter made
+pub made_short : {side : Side} {kind : RegionKind} {row : Row} {who : Who} {filter : List ℕ}
+    {made : Row} → IsCarriedRow side kind row who filter made
     → has_long (kind_levels kind) ≡ false → has_long (levels filter) ≡ false
     → is_long_who who ≡ false → has_long_row (row_views (made ∷ [])) ≡ false
-made_short side kind row who filter made is h k w =
-    or-false (is_long_row (row_view made))
-    ∙ or_from (has_long (levels made.filter)) (is_long_who (owner_view made.owner))
-    (carried_short side kind filter made.filter is.carried h k)
-    (ap is_long_who is.owner ∙ w)
+made_short {side} {kind} {filter = filter} {made} is h k w = grind (arith, carried_short)
 
-pub plain_group : (side : Side) (kind : RegionKind) (row : Row) (who : Who) (filter : List ℕ)
+pub plain_group : {side : Side} {kind : RegionKind} {row : Row} (who : Who) (filter : List ℕ)
     (made : Option Row) → IsCarriedRowIfAny side kind row who filter made
     → is_everyones who ≡ false → has_long (kind_levels kind) ≡ false
     → has_long (levels filter) ≡ false
     → (is_long_row (row_view row) ≡ false → is_long_who who ≡ false)
     → IsGroup side kind row (option_to_list made)
     (λ u m. applies u who && matches (levels filter) (levels m))
-plain_group side kind row who filter None is h k l w =
-    group_none side kind row (λ u m. applies u who && matches (levels filter) (levels m))
-    (λ n m u i g e. ap (λ b. applies u who && b) (is.none n m i g e) ∙ and-false (applies u who))
-plain_group side kind row who filter (Some made) is h k l w = record {
+plain_group {row = row} who filter None is h k l w = grind (arith, group_none, and-false)
+plain_group who filter (Some made) is h k l w = record {
   versions = (is.version, tt);
   same = λ x n m u i g e.
-      made_concerns side kind row who filter made x u n h is
-      ∙ ap (λ b. applies u who && b) (is.carried.same n m i g e);
+      made_concerns x u n h is ∙ ap (λ b. applies u who && b) (is.carried.same n m i g e);
   outside = λ x n u i g.
-      made_concerns side kind row who filter made x u n h is
-      ∙ ap (λ b. applies u who && b) (false_from_ne_true (matches (levels made.filter) (levels n))
+      made_concerns x u n h is
+      ∙ ap (λ b. applies u who && b) (false_from_ne_true _
       (λ m. let no : true ≡ false = sym (is.carried.inside n i m) ∙ g in cc))
       ∙ and-false (applies u who);
-  short = λ s. made_short side kind row who filter made is k l (w s);
+  short = λ s. made_short is k l (w s);
 }
 
 -- that of a `topic` row
-pub topic_group : (side : Side) (kind : RegionKind) (row : Row) (c : List ℕ) (made : Option Row)
+pub topic_group : {side : Side} {kind : RegionKind} (row : Row) (c : List ℕ) (made : Option Row)
     → IsCarriedRowIfAny side kind row (owner_view row.owner) row.filter made
     → is_everyones (owner_view row.owner) ≡ false → has_long (kind_levels kind) ≡ false
     → has_long (levels row.filter) ≡ false
     → IsGroup side kind row (option_to_list made) (λ u m. concerns c u m (row_view row))
-topic_group side kind row c made is h k l =
-    group_by side kind row (option_to_list made)
-    (λ u m. applies u (owner_view row.owner) && matches (levels row.filter) (levels m))
-    (λ u m. concerns c u m (row_view row))
+topic_group row c made is h k l =
+    group_by
     (λ u m. sym (plain_concerns c u m (owner_view row.owner) (access_view row.access) row.filter h))
-    (plain_group side kind row (owner_view row.owner) row.filter made is h k l
-    (λ s. (or_parts (has_long (levels row.filter)) (is_long_who (owner_view row.owner)) s).1))
+    (plain_group (owner_view row.owner) row.filter made is h k l
+    (λ s. (or_parts (has_long (levels row.filter)) _ s).1))
 
 -- ---- rows for the clients of a user name that stands for `%u`
 named_test : (c text m filter made : List ℕ) (row : Row) (u : Option (List ℕ))
@@ -189,24 +178,21 @@ named_test c text m filter made row (Some user) h is =
         ∙ ap (λ t. pattern_covers c (Some t) m filter) (sym (text_is user text e))
     at false e = refl
 
-pub named_group : (side : Side) (kind : RegionKind) (row : Row) (c text filter filled : List ℕ)
-    (made : Option Row) → IsCarriedRowIfAny side kind row (Named text) filled made
+pub named_group : {side : Side} {kind : RegionKind} (row : Row) (c text : List ℕ)
+    {filter filled : List ℕ} (made : Option Row)
+    → IsCarriedRowIfAny side kind row (Named text) filled made
     → IsFilled (codes "%u") text filter filled → has_level (codes "%c") (levels filter) ≡ false
     → has_long (kind_levels kind) ≡ false → is_long text ≡ false
     → IsGroup side kind row (option_to_list made) (covers_named c filter row (text ∷ []))
-named_group side kind row c text filter filled made is f h k l =
-    group_by side kind row (option_to_list made)
-    (λ u m. applies u (Named text) && matches (levels filled) (levels m))
-    (covers_named c filter row (text ∷ []))
-    (λ u m. named_test c text m filter filled row u h f)
-    (plain_group side kind row (Named text) filled made is refl k f.short (λ s. l))
+named_group row c text {filter} {filled} made is f h k l =
+    group_by (λ u m. named_test c text m filter filled row u h f)
+    (plain_group (Named text) filled made is refl k f.short (λ s. l))
 
-pub unnamed_group : (side : Side) (kind : RegionKind) (row : Row) (c text filter : List ℕ)
+pub unnamed_group : {side : Side} {kind : RegionKind} (row : Row) (c text filter : List ℕ)
     → IsFilledIfAny (codes "%u") text filter None
     → IsGroup side kind row [] (covers_named c filter row (text ∷ []))
-unnamed_group side kind row c text filter none =
-    group_none side kind row (covers_named c filter row (text ∷ []))
-    (λ n m u h g e. no u m (asked_name side kind n m h e))
+unnamed_group {side} {kind} row c text filter none =
+    group_none row (λ n m u h g e. no u m (asked_name side kind n m h e))
   where
     no : (u : Option (List ℕ)) (m : List ℕ) → is_name m ≡ true
         → covers_named c filter row (text ∷ []) u m ≡ false
@@ -225,15 +211,4 @@ pub named_more : (c filter : List ℕ) (row : Row) (xs : List (List ℕ)) (y : L
     (u : Option (List ℕ)) (m : List ℕ)
     → (covers_named c filter row xs u m || covers_named c filter row (y ∷ []) u m)
     ≡ covers_named c filter row (xs ++ y ∷ []) u m
-named_more c filter row xs y u m =
-    shared (list_any (λ t. is_user t u) xs) (list_any (λ t. is_user t u) (y ∷ []))
-    (pattern_covers c u m filter)
-    ∙ ap (λ b. b && pattern_covers c u m filter)
-    (sym (list_any-append (λ t. is_user t u) xs (y ∷ [])))
-  where
-    shared : (a b d : Bool) → ((a && d) || (b && d)) ≡ ((a || b) && d)
-    shared true true true = refl
-    shared true true false = refl
-    shared true false true = refl
-    shared true false false = refl
-    shared false b d = refl
+named_more c filter row xs y u m = grind (arith, pattern_covers, list_any-append)

@@ -3,14 +3,10 @@ mod StandLemmas
 mod NameLemmas
 mod CoverLemmas
 mod CarriedLemmas
-mod LedLemmas
 mod ExactLemmas
 mod FillLemmas
-mod MadeLemmas
 mod GroupLemmas
 mod PatternLemmas
 mod LineLemmas
-mod LimitLemmas
 mod CarryLemmas
 mod TextLemmas
-mod StepLemmas

@@ -1,23 +1,21 @@
 -- Back from new names to those that get them.
-use Rattle.std.proofs.Common.{◌≡◌, ℕ, ◌-◌, ◌<◌, Bool, true, false, cond, not, ◌&&◌, List}
-use Rattle.std.proofs.Common.{[], ◌∷◌, length, drop, refl, ap, sym, ◌∙◌, arith, zero, suc}
+use Rattle.std.proofs.Common.{◌≡◌, ℕ, ◌<◌, Bool, true, false, cond, not, ◌&&◌, List, [], ◌∷◌}
+use Rattle.std.proofs.Common.{length, drop, refl, ap, sym, ◌∙◌, arith, zero, suc}
 use Rattle.std.specs.Prelude.{Some, None}
 use Rattle.std.specs.List.{zip}
-use Rattle.std.proofs.Math.Bool.{and-false}
-use Rattle.std.proofs.lemmas.Bool.{and_parts, and_from}
+use Rattle.std.proofs.lemmas.Bool.{and_parts}
 use Rattle.std.proofs.lemmas.List.Folds.{list_all-append}
 use Rattle.std.proofs.lemmas.Slice.Zip.{firsts-zip}
 use Rattle.mq_topic.specs.Levels.{levels}
 use Rattle.mq_topic.specs.Matching.{is_hidden, is_wildcard, level_at, matches}
 use Rattle.mq_topic.specs.Texts.{contains_byte, is_name}
-use Rattle.mq_topic.proofs.Walk.{levels-nonempty}
+use Rattle.mq_topic.proofs.Walk.{hidden, levels-nonempty, shown}
 use Rattle.mq_rename.specs.Bounds.{IsBound, IsBoundIfAny}
 use Rattle.mq_rename.specs.Lists.{is_hash, is_plus, levels_match}
 use Rattle.mq_rename.specs.Renames.{Renaming, becomes, is_rename, new_levels, new_name, new_text}
 use Rattle.mq_rename.proofs.FitLemmas.{all_lack, levels_without}
 use Rattle.mq_rename.proofs.JoinLemmas.{joined, levels-joined}
-use Rattle.mq_rename.proofs.MatchLemmas.{has_dollar, matches_hidden, matches_not, matches_parts}
-use Rattle.mq_rename.proofs.MatchLemmas.{matches_shown, no_hash, no_plus}
+use Rattle.mq_rename.proofs.MatchLemmas.{has_dollar, matches_not, matches_parts, no_hash, no_plus}
 use Rattle.mq_rename.proofs.BindLemmas.{firsts, head, made, made_head}
 use Rattle.mq_rename.proofs.BoundLemmas.{IsRule, rule_is}
 
@@ -25,15 +23,13 @@ use Rattle.mq_rename.proofs.BoundLemmas.{IsRule, rule_is}
 level_lacks : (ls : List (List ℕ)) (p : ℕ) → all_lack 47 ls ≡ true
     → not (contains_byte 47 (level_at ls p)) ≡ true
 level_lacks [] p h = refl
-level_lacks (x ∷ xs) zero h = (and_parts (not (contains_byte 47 x)) (all_lack 47 xs) h).0
-level_lacks (x ∷ xs) (suc p) h =
-    level_lacks xs p (and_parts (not (contains_byte 47 x)) (all_lack 47 xs) h).1
+level_lacks (x ∷ xs) zero h = (and_parts _ _ h).0
+level_lacks (x ∷ xs) (suc p) h = level_lacks xs p (and_parts _ _ h).1
 
 drop_lacks : (k : ℕ) (ls : List (List ℕ)) → all_lack 47 ls ≡ true → all_lack 47 (drop k ls) ≡ true
 drop_lacks zero ls h = h
 drop_lacks (suc k) [] h = refl
-drop_lacks (suc k) (x ∷ xs) h =
-    drop_lacks k xs (and_parts (not (contains_byte 47 x)) (all_lack 47 xs) h).1
+drop_lacks (suc k) (x ∷ xs) h = drop_lacks k xs (and_parts _ _ h).1
 
 becomes_lacks : (front : ℕ) (n : List (List ℕ)) (q : List ℕ × ℕ) → all_lack 47 n ≡ true
     → not (contains_byte 47 q.0) ≡ true → all_lack 47 (becomes front n q) ≡ true
@@ -49,10 +45,7 @@ made_lacks : (left n : List (List ℕ)) (qs : List (List ℕ × ℕ)) → all_la
     → all_lack 47 (firsts qs) ≡ true → all_lack 47 (made left n qs) ≡ true
 made_lacks left n [] h k = refl
 made_lacks left n (q ∷ qs) h k =
-    let parts = and_parts (not (contains_byte 47 q.0)) (all_lack 47 (firsts qs)) k in
-    list_all-append (λ l. not (contains_byte 47 l)) (becomes (length left - 1) n q) (made left n qs)
-    ∙ and_from (all_lack 47 (becomes (length left - 1) n q)) (all_lack 47 (made left n qs))
-    (becomes_lacks (length left - 1) n q h parts.0) (made_lacks left n qs h parts.1)
+    grind (arith, made_lacks left n qs h, list_all-append, becomes_lacks)
 
 -- ---- the levels of a new name
 -- the text has these levels, and begins with this one
@@ -104,7 +97,7 @@ new_name_is r n m h e =
     at true f g =
         let same : new_text r n ≡ m = let k : Some (new_text r n) ≡ Some m = g in cc in
         record {
-          renamed = (and_parts (matches (levels r.left) (levels n)) (is_name (new_text r n)) f).0;
+          renamed = (and_parts _ _ f).0;
           are = ap levels (sym same) ∙ text.are;
           begins = ap (λ t. level_at (levels t) 0) (sym same) ∙ text.begins;
         }
@@ -119,20 +112,13 @@ hidden_new r n m filter is =
 pub back_hidden : (r : Renaming) (n m : List ℕ) (filter : List (List ℕ)) → IsNewName r n m
     → is_hidden filter (levels r.right) ≡ true → matches filter (levels m) ≡ false
 back_hidden r n m filter is h =
-    matches_hidden filter (levels m) (hidden_new r n m filter is ∙ h)
+    hidden filter (levels m) (hidden_new r n m filter is ∙ h)
 
 -- none, if the left side can't be bound
 pub back_none : (r : Renaming) (n m : List ℕ) (filter : List (List ℕ)) → IsNewName r n m
     → IsBoundIfAny (levels r.left) (levels r.right) r.places filter None
     → matches filter (levels m) ≡ false
-back_none r n m filter is none =
-    matches_not filter (levels m) (ap (levels_match filter) is.are
-    ∙ none (levels n) (matches_parts (levels r.left) (levels n) is.renamed).1)
-
-shown : (fs ns : List (List ℕ)) → 0 < length ns → is_hidden fs ns ≡ false
-    → matches fs ns ≡ levels_match fs ns
-shown fs [] h e = absurd (omega arith)
-shown fs (n ∷ ns) h e = matches_shown fs n ns e
+back_none r n m filter is none = grind (arith, matches_not, matches_parts)
 
 -- those of the names that are bound
 pub back_bound : (r : Renaming) (n m : List ℕ) (filter bound : List (List ℕ)) → IsNewName r n m
@@ -141,12 +127,11 @@ pub back_bound : (r : Renaming) (n m : List ℕ) (filter bound : List (List ℕ)
     → matches bound (levels n) ≡ matches filter (levels m)
 back_bound r n m filter bound is h b =
     let left = matches_parts (levels r.left) (levels n) is.renamed in
-    shown bound (levels n) (levels-nonempty n)
+    shown bound n
     (seen (has_dollar (level_at (levels n) 0)) (is_wildcard (level_at bound 0))
     (is_wildcard (level_at (levels r.left) 0)) b.front left.0)
     ∙ sym (ap (levels_match filter) is.are ∙ b.same (levels n) left.1)
-    ∙ sym (shown filter (levels m) (levels-nonempty m) (hidden_new r n m filter is ∙ h))
+    ∙ sym (shown filter m (hidden_new r n m filter is ∙ h))
   where
     seen : (d v w : Bool) → (v ≡ true → w ≡ true) → (d && w) ≡ false → (d && v) ≡ false
-    seen d false w f e = and-false d
-    seen d true w f e = sym (ap (λ u. d && u) (f refl)) ∙ e
+    seen d v w f e = grind arith

@@ -1,13 +1,12 @@
 -- The left side of a rule, bound level by level.
 use Rattle.std.proofs.Common.{◌≡◌, ◌==◌, ℕ, ◌-◌, ◌<◌, Bool, true, false, cond, not, ◌&&◌, ◌||◌}
-use Rattle.std.proofs.Common.{List}
-use Rattle.std.proofs.Common.{[], ◌∷◌, ◌++◌, length, drop, map, refl, ap, sym, ◌∙◌, arith, zero}
-use Rattle.std.proofs.Common.{suc, subst, length-set}
+use Rattle.std.proofs.Common.{List, [], ◌∷◌, ◌++◌, length, drop, map, refl, ap, sym, ◌∙◌, arith}
+use Rattle.std.proofs.Common.{zero, suc, subst, length-set}
 use Rattle.std.specs.Prelude.{codes, Option, Some, None, slice_set}
 use Rattle.std.specs.Option.{option_map}
 use Rattle.std.specs.List.{flat_map, list_all}
 use Rattle.std.proofs.Math.Bool.{and-true, and-false}
-use Rattle.std.proofs.lemmas.Bool.{and_parts, or_from, or_parts}
+use Rattle.std.proofs.lemmas.Bool.{and_parts, or_from, or_parts, or_right}
 use Rattle.std.proofs.lemmas.List.{set-get_or}
 use Rattle.mq_topic.specs.Matching.{ends_with_hash, is_wildcard, level_at, level_matches}
 use Rattle.mq_topic.specs.Texts.{contains_byte, is_level}
@@ -15,26 +14,20 @@ use Rattle.mq_topic.proofs.ByteLemmas.{text_is}
 use Rattle.mq_rename.specs.Bounds.{bind}
 use Rattle.mq_rename.specs.Lists.{are_fit, has_long, is_hash, is_last_hash, is_long, is_plus}
 use Rattle.mq_rename.specs.Lists.{levels_match}
-use Rattle.mq_rename.specs.Meets.{met_level}
+use Rattle.mq_rename.specs.Meets.{behind, met_level}
 use Rattle.mq_rename.specs.Renames.{becomes, has_place}
 use Rattle.mq_rename.proofs.FitLemmas.{IsFit, fit_from, fit_parts, inner_is_not, inner_lacks}
 use Rattle.mq_rename.proofs.FitLemmas.{no_last}
 use Rattle.mq_rename.proofs.MatchLemmas.{match_cons, match_end}
-use Rattle.mq_rename.proofs.MeetLemmas.{level_if_any, match_if_any, met_level_by, met_level_matches}
+use Rattle.mq_rename.proofs.MeetLemmas.{behind_end, behind_match, match_if_any, met_level_by}
+use Rattle.mq_rename.proofs.MeetLemmas.{met_level_matches}
 use Rattle.mq_rename.proofs.ReachLemmas.{last_is_long}
 
 pub and_assoc : (a b c : Bool) → (a && (b && c)) ≡ ((a && b) && c)
-and_assoc true b c = refl
-and_assoc false b c = refl
+and_assoc a b c = grind arith
 
 and_turn : (a b c : Bool) → ((a && b) && c) ≡ ((a && c) && b)
-and_turn true true c = sym (and-true c)
-and_turn true false c = sym (and-false c)
-and_turn false b c = refl
-
-pub or_true : (b : Bool) → (b || true) ≡ true
-or_true true = refl
-or_true false = refl
+and_turn a b c = grind arith
 
 -- ---- one level is bound
 hash_is_no_plus : (l : List ℕ) → is_plus l ≡ true → is_hash l ≡ false
@@ -52,17 +45,10 @@ plus_inside (x ∷ xs) (suc p) e = let more = plus_inside xs p e in omega arith
 abbrev set_if_any : List (List ℕ) → ℕ → Option (List ℕ) → Option (List (List ℕ))
 set_if_any ls p o = option_map (λ l. slice_set ls p l) o
 
-first_set : (x : List ℕ) (xs : List (List ℕ)) (o : Option (List ℕ)) (m : List ℕ)
-    (ms : List (List ℕ)) → ((l : List ℕ) → o ≡ Some l → is_hash l ≡ false)
-    → match_if_any (set_if_any (x ∷ xs) 0 o) (m ∷ ms) ≡ (level_if_any o m && levels_match xs ms)
-first_set x xs None m ms e = refl
-first_set x xs (Some l) m ms e = match_cons l m xs ms (no_last l xs (e l refl))
-
-first_set_end : (x : List ℕ) (xs : List (List ℕ)) (o : Option (List ℕ))
-    → ((l : List ℕ) → o ≡ Some l → is_hash l ≡ false)
-    → match_if_any (set_if_any (x ∷ xs) 0 o) [] ≡ false
-first_set_end x xs None e = refl
-first_set_end x xs (Some l) e = match_end l xs (no_last l xs (e l refl))
+first_set : (x : List ℕ) (xs : List (List ℕ)) (o : Option (List ℕ))
+    → set_if_any (x ∷ xs) 0 o ≡ behind o (Some xs)
+first_set x xs None = refl
+first_set x xs (Some l) = refl
 
 set_some : (xs : List (List ℕ)) (p : ℕ) (l : List ℕ) → 0 < length xs
     → 0 < length (slice_set xs p l)
@@ -82,16 +68,6 @@ next_set_end x xs p None h = refl
 next_set_end x xs p (Some l) h =
     match_end x (slice_set xs p l) (last_is_long x (slice_set xs p l) (set_some xs p l h))
 
-no_hash_met : (x f l : List ℕ) → is_hash x ≡ false → is_hash f ≡ false → met_level x f ≡ Some l
-    → is_hash l ≡ false
-no_hash_met x f l h k =
-    met_level_by (λ o. o ≡ Some l → is_hash l ≡ false) x f
-    (λ e. absurd (let n : None ≡ Some l = e in cc))
-    (λ e. ap is_hash (same e) ∙ h) (λ e. ap is_hash (same e) ∙ k)
-  where
-    same : {a b : List ℕ} → Some a ≡ Some b → b ≡ a
-    same e = cc
-
 -- a level that has to be another's, too
 set_match : (ls : List (List ℕ)) (p : ℕ) (f : List ℕ) (n : List (List ℕ)) → p < length ls
     → is_hash (level_at ls p) ≡ false → is_hash f ≡ false
@@ -99,22 +75,12 @@ set_match : (ls : List (List ℕ)) (p : ℕ) (f : List ℕ) (n : List (List ℕ)
     ≡ (levels_match ls n && level_matches f (level_at n p))
 set_match [] p f n in' h k = absurd (omega arith)
 set_match (x ∷ xs) zero f [] in' h k =
-    first_set_end x xs (met_level x f) (λ l e. no_hash_met x f l h k e)
-    ∙ sym (ap (λ b. b && level_matches f []) (match_end x xs (no_last x xs h)))
+    grind (arith, first_set, behind_end, met_level_by, match_end, no_last)
 set_match (x ∷ xs) zero f (m ∷ ms) in' h k =
-    first_set x xs (met_level x f) m ms (λ l e. no_hash_met x f l h k e)
-    ∙ ap (λ b. b && levels_match xs ms) (met_level_matches x f m)
-    ∙ and_turn (level_matches x m) (level_matches f m) (levels_match xs ms)
-    ∙ ap (λ b. b && level_matches f m) (sym (match_cons x m xs ms (no_last x xs h)))
-set_match (x ∷ xs) (suc p) f [] in' h k =
-    next_set_end x xs p (met_level (level_at xs p) f) (omega arith)
-    ∙ sym (ap (λ b. b && level_matches f []) (match_end x xs (last_is_long x xs (omega arith))))
+    grind (arith, first_set, behind_match, met_level_by, met_level_matches, and_turn, match_cons)
+set_match (x ∷ xs) (suc p) f [] in' h k = grind (arith, next_set_end, match_end, last_is_long)
 set_match (x ∷ xs) (suc p) f (m ∷ ms) in' h k =
-    next_set x xs p (met_level (level_at xs p) f) m ms (omega arith)
-    ∙ ap (λ b. level_matches x m && b) (set_match xs p f ms (omega arith) h k)
-    ∙ and_assoc (level_matches x m) (levels_match xs ms) (level_matches f (level_at ms p))
-    ∙ ap (λ b. b && level_matches f (level_at ms p))
-    (sym (match_cons x m xs ms (last_is_long x xs (omega arith))))
+    grind (arith, set_match xs p f ms, next_set, and_assoc, match_cons, last_is_long)
 
 hash_set : (ls : List (List ℕ)) (p : ℕ) (l : List ℕ) (k : ℕ) → is_hash (level_at ls p) ≡ false
     → is_hash l ≡ false → is_hash (level_at (slice_set ls p l) k) ≡ is_hash (level_at ls k)
@@ -138,7 +104,7 @@ fit_set (x ∷ xs) zero l f e = fit_from l xs (record {
   nul = e.nul;
   slash = e.slash;
   level = e.level;
-  hash = (λ i. (length xs == 0) || not (e.hash i)) ∙ or_true (length xs == 0);
+  hash = or_right (length xs == 0) _ (ap not e.hash);
   after = (fit_parts x xs f).after;
 })
 fit_set (x ∷ xs) (suc p) l f e =
@@ -154,11 +120,8 @@ fit_set (x ∷ xs) (suc p) l f e =
 short_set : (ls : List (List ℕ)) (p : ℕ) (l : List ℕ) → has_long ls ≡ false → is_long l ≡ false
     → has_long (slice_set ls p l) ≡ false
 short_set [] p l f e = refl
-short_set (x ∷ xs) zero l f e =
-    or_from (is_long l) (has_long xs) e (or_parts (is_long x) (has_long xs) f).1
-short_set (x ∷ xs) (suc p) l f e =
-    let parts = or_parts (is_long x) (has_long xs) f in
-    or_from (is_long x) (has_long (slice_set xs p l)) parts.0 (short_set xs p l parts.1 e)
+short_set (x ∷ xs) zero l f e = or_from _ _ e (or_parts (is_long x) _ f).1
+short_set (x ∷ xs) (suc p) l f e = grind (arith, short_set xs p l, or_parts, or_from)
 
 -- ---- how far a rule is bound
 abbrev pub firsts : List (List ℕ × ℕ) → List (List ℕ)
@@ -168,19 +131,23 @@ firsts qs = map (λ (q : List ℕ × ℕ). q.0) qs
 abbrev pub made : List (List ℕ) → List (List ℕ) → List (List ℕ × ℕ) → List (List ℕ)
 made left n qs = flat_map (becomes (length left - 1) n) qs
 
+-- what is known of levels that are bound, but for what they match
+pub record IsShaped (left filter bound : List (List ℕ)) : Type 0 where
+  pub size : length bound ≡ length left
+  pub hashes : (p : ℕ) → is_hash (level_at bound p) ≡ is_hash (level_at left p)
+  pub fit : are_fit bound ≡ true
+  pub short : has_long left ≡ false → has_long filter ≡ false → has_long bound ≡ false
+  pub front : is_wildcard (level_at bound 0) ≡ true → is_wildcard (level_at left 0) ≡ true
+
 -- what is left of the right side, and of the filter
 pub record IsBinding (left : List (List ℕ)) (all : List (List ℕ × ℕ)) (filter bound : List (List ℕ))
     (qs : List (List ℕ × ℕ)) (fs : List (List ℕ)) : Type 0 where
   pub same : (n : List (List ℕ)) → levels_match left n ≡ true
       → levels_match filter (made left n all)
       ≡ (levels_match bound n && levels_match fs (made left n qs))
-  pub size : length bound ≡ length left
-  pub hashes : (p : ℕ) → is_hash (level_at bound p) ≡ is_hash (level_at left p)
-  pub fit : are_fit bound ≡ true
+  pub shaped : IsShaped left filter bound
   pub rest : are_fit fs ≡ true
-  pub short : has_long left ≡ false → has_long filter ≡ false → has_long bound ≡ false
   pub short_rest : has_long filter ≡ false → has_long fs ≡ false
-  pub front : is_wildcard (level_at bound 0) ≡ true → is_wildcard (level_at left 0) ≡ true
   pub right : are_fit (firsts qs) ≡ true
   pub placed : list_all (has_place left) qs ≡ true
   pub tail : ends_with_hash (firsts qs) ≡ true → ends_with_hash left ≡ true
@@ -204,9 +171,7 @@ made_head left n q qs e = ap (λ ls. ls ++ made left n qs) (at (is_plus q.0) (is
 pub place_is : (left : List (List ℕ)) (q : List ℕ × ℕ) (qs : List (List ℕ × ℕ))
     → list_all (has_place left) (q ∷ qs) ≡ true → is_plus q.0 ≡ true
     → is_plus (level_at left q.1) ≡ true
-place_is left q qs h e =
-    sym (ap (λ b. not b || is_plus (level_at left q.1)) e)
-    ∙ (and_parts (has_place left q) (list_all (has_place left) qs) h).0
+place_is left q qs h e = grind (arith, and_parts)
 
 bind_match : (left bound : List (List ℕ)) (q : List ℕ × ℕ) (f : List ℕ) (n : List (List ℕ))
     → length bound ≡ length left
@@ -235,14 +200,6 @@ abbrev pub BindsOn : List (List ℕ) → List (List ℕ × ℕ) → List (List �
 BindsOn left all filter qs fs None = (n : List (List ℕ)) → levels_match left n ≡ true
     → levels_match filter (made left n all) ≡ false
 BindsOn left all filter qs fs (Some bound) = IsBinding left all filter bound qs fs
-
--- what is known of levels that are bound, but for what they match
-record IsShaped (left filter bound : List (List ℕ)) : Type 0 where
-  pub size : length bound ≡ length left
-  pub hashes : (p : ℕ) → is_hash (level_at bound p) ≡ is_hash (level_at left p)
-  pub fit : are_fit bound ≡ true
-  pub short : has_long left ≡ false → has_long filter ≡ false → has_long bound ≡ false
-  pub front : is_wildcard (level_at bound 0) ≡ true → is_wildcard (level_at left 0) ≡ true
 
 abbrev ShapedIfAny : List (List ℕ) → List (List ℕ) → Option (List (List ℕ)) → Type 0
 ShapedIfAny left filter None = Unit {0}
@@ -290,11 +247,7 @@ bind_shaped left filter bound q f place is inner h short = at (is_plus q.0) refl
 
 ends-cons : (x y : List ℕ) (ys : List (List ℕ))
     → ends_with_hash (x ∷ y ∷ ys) ≡ ends_with_hash (y ∷ ys)
-ends-cons x y ys =
-    let more : length (x ∷ y ∷ ys) - 1 ≡ suc (length ys) = omega arith in
-    let less : length (y ∷ ys) - 1 ≡ length ys = omega arith in
-    ap (λ k. is_hash (level_at (x ∷ y ∷ ys) k)) more
-    ∙ ap (λ k. is_hash (level_at (y ∷ ys) k)) (sym less)
+ends-cons x y ys = grind (arith)
 
 tail_on : (left : List (List ℕ)) (q : List ℕ × ℕ) (qs : List (List ℕ × ℕ))
     → (ends_with_hash (firsts (q ∷ qs)) ≡ true → ends_with_hash left ≡ true)
@@ -303,20 +256,13 @@ tail_on left q [] f h = absurd (let k : false ≡ true = h in cc)
 tail_on left q (r ∷ qs) f h = f (ends-cons q.0 r.0 (firsts qs) ∙ h)
 
 -- one level on, if the filter has one more, and the right side
-pub bind_on : (left : List (List ℕ)) (all : List (List ℕ × ℕ)) (filter bound : List (List ℕ))
-    (q : List ℕ × ℕ) (qs : List (List ℕ × ℕ)) (f : List ℕ) (fs : List (List ℕ))
+pub bind_on : {left : List (List ℕ)} {all : List (List ℕ × ℕ)} {filter bound : List (List ℕ)}
+    {q : List ℕ × ℕ} {qs : List (List ℕ × ℕ)} {f : List ℕ} {fs : List (List ℕ)}
     → IsBinding left all filter bound (q ∷ qs) (f ∷ fs) → is_hash q.0 ≡ false
     → is_last_hash f fs ≡ false → BindsOn left all filter qs fs (bind bound q.0 q.1 f)
-bind_on left all filter bound q qs f fs is plain inner =
+bind_on {left} {all} {filter} {bound} {q} {qs} {f} {fs} is plain inner =
     at (bind bound q.0 q.1 f) step
-    (bind_shaped left filter bound q f place
-    (record {
-      size = is.size;
-      hashes = is.hashes;
-      fit = is.fit;
-      short = is.short;
-      front = is.front;
-    })
+    (bind_shaped left filter bound q f place is.shaped
     (record {
       nul = parts.nul;
       slash = parts.slash;
@@ -324,7 +270,7 @@ bind_on left all filter bound q qs f fs is plain inner =
       hash = inner_lacks f fs is.rest inner;
     })
     (inner_is_not f fs is.rest inner)
-    (λ e. (or_parts (is_long f) (has_long fs) (is.short_rest e)).0))
+    (λ e. (or_parts (is_long f) _ (is.short_rest e)).0))
   where
     parts : IsFit f fs
     parts = fit_parts f fs is.rest
@@ -334,7 +280,7 @@ bind_on left all filter bound q qs f fs is plain inner =
 
     matched : (n : List (List ℕ)) → match_if_any (bind bound q.0 q.1 f) n
         ≡ (levels_match bound n && level_matches f (head n q))
-    matched n = bind_match left bound q f n is.size is.hashes place
+    matched n = bind_match left bound q f n is.shaped.size is.shaped.hashes place
         (inner_is_not f fs is.rest inner)
 
     step : (n : List (List ℕ)) → levels_match left n ≡ true
@@ -356,14 +302,10 @@ bind_on left all filter bound q qs f fs is plain inner =
     at None s shaped = s
     at (Some next) s shaped = record {
       same = s;
-      size = shaped.size;
-      hashes = shaped.hashes;
-      fit = shaped.fit;
+      shaped = shaped;
       rest = parts.after;
-      short = shaped.short;
-      short_rest = λ e. (or_parts (is_long f) (has_long fs) (is.short_rest e)).1;
-      front = shaped.front;
+      short_rest = λ e. (or_parts (is_long f) _ (is.short_rest e)).1;
       right = (fit_parts q.0 (firsts qs) is.right).after;
-      placed = (and_parts (has_place left q) (list_all (has_place left) qs) is.placed).1;
+      placed = (and_parts (has_place left q) _ is.placed).1;
       tail = tail_on left q qs is.tail;
     }

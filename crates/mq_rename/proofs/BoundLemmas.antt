@@ -1,12 +1,12 @@
 -- Where the binding of a rule starts and ends.
-use Rattle.std.proofs.Common.{◌≡◌, ◌==◌, ℕ, ◌-◌, Bool, true, false, cond, not, ◌&&◌, ◌||◌, List}
-use Rattle.std.proofs.Common.{[], ◌∷◌, ◌++◌, length, drop, refl, ap, sym, ◌∙◌, arith, suc}
-use Rattle.std.proofs.Common.{append-nil}
+use Rattle.std.proofs.Common.{◌≡◌, ◌==◌, ℕ, ◌-◌, Bool, true, false, cond, not, ◌&&◌, ◌||◌, List, []}
+use Rattle.std.proofs.Common.{◌∷◌, ◌++◌, length, drop, refl, ap, sym, ◌∙◌, arith, suc, append-nil}
 use Rattle.std.specs.Prelude.{codes, None, Some}
 use Rattle.std.specs.List.{list_all, zip}
-use Rattle.std.proofs.Math.Bool.{and-true, and-false}
+use Rattle.std.proofs.Math.Bool.{and-true}
 use Rattle.std.proofs.Math.Dec.{eqb-suc-zero}
-use Rattle.std.proofs.lemmas.Bool.{and_parts, eqb-true, or_from, or_parts}
+use Rattle.std.proofs.lemmas.Bool.{and_parts, and_right, eqb-true, not-true, or_from, or_parts}
+use Rattle.std.proofs.lemmas.Bool.{or_right}
 use Rattle.std.proofs.lemmas.Slice.Zip.{firsts-zip}
 use Rattle.mq_topic.specs.Levels.{levels}
 use Rattle.mq_topic.specs.Matching.{ends_with_hash, is_wildcard, level_at, level_matches}
@@ -22,7 +22,7 @@ use Rattle.mq_rename.proofs.FitLemmas.{parents-cons}
 use Rattle.mq_rename.proofs.MatchLemmas.{match_cons, match_end, match_hash}
 use Rattle.mq_rename.proofs.MeetLemmas.{long_of}
 use Rattle.mq_rename.proofs.ReachLemmas.{last_is_long}
-use Rattle.mq_rename.proofs.BindLemmas.{IsBinding, firsts, made, and_assoc, or_true, made_head}
+use Rattle.mq_rename.proofs.BindLemmas.{IsBinding, firsts, made, and_assoc, made_head}
 use Rattle.mq_rename.proofs.BindLemmas.{plus_is_no_hash}
 
 -- ---- the start
@@ -47,16 +47,11 @@ rule_is left right places h =
       count = eqb-true (length (levels right)) (length places) one.0;
       placed = one.1;
       tail = implied (ends_with_hash (levels right)) (ends_with_hash (levels left)) two.1;
-      own = off wild three.1;
+      own = not-true wild three.1;
     }
   where
     implied : (a b : Bool) → (not a || b) ≡ true → a ≡ true → b ≡ true
-    implied true b e h = e
-    implied false b e h = absurd (let k : false ≡ true = h in cc)
-
-    off : (b : Bool) → not b ≡ true → b ≡ false
-    off true e = absurd (let k : false ≡ true = e in cc)
-    off false e = refl
+    implied a b e h = grind arith
 
 pub binding_starts : (left right : List (List ℕ)) (places : List ℕ) (filter : List (List ℕ))
     → IsRule left right places → are_fit left ≡ true → are_fit right ≡ true → are_fit filter ≡ true
@@ -65,13 +60,15 @@ binding_starts left right places filter is f g h =
     let sides : firsts (zip right places) ≡ right = firsts-zip right places (sym is.count) in
     record {
       same = λ n m. sym (ap (λ b. b && levels_match filter (made left n (zip right places))) m);
-      size = refl;
-      hashes = λ p. refl;
-      fit = f;
+      shaped = record {
+        size = refl;
+        hashes = λ p. refl;
+        fit = f;
+        short = λ a b. a;
+        front = λ a. a;
+      };
       rest = h;
-      short = λ a b. a;
       short_rest = λ a. a;
-      front = λ a. a;
       right = ap are_fit sides ∙ g;
       placed = is.placed;
       tail = λ e. is.tail (sym (ap ends_with_hash sides) ∙ e);
@@ -79,28 +76,27 @@ binding_starts left right places filter is f g h =
 
 -- ---- ends
 -- the levels that are bound, if the filter demands nothing more
-pub ends_bound : (left right : List (List ℕ)) (places : List ℕ) (filter bound : List (List ℕ))
-    (qs : List (List ℕ × ℕ)) (fs : List (List ℕ))
+pub ends_bound : {left right : List (List ℕ)} {places : List ℕ} {filter bound : List (List ℕ)}
+    {qs : List (List ℕ × ℕ)} {fs : List (List ℕ)}
     → IsBinding left (zip right places) filter bound qs fs
     → ((n : List (List ℕ)) → levels_match fs (made left n qs) ≡ true)
     → IsBound left right places filter bound
-ends_bound left right places filter bound qs fs is free = record {
+ends_bound {left} {filter = filter} {bound} is free = record {
   same = λ n m. is.same n m ∙ ap (λ b. levels_match bound n && b) (free n)
       ∙ and-true (levels_match bound n);
-  fit = is.fit;
-  long = λ h. long_of (has_long left) (has_long filter) (has_long bound) is.short h;
-  front = is.front;
+  fit = is.shaped.fit;
+  long = λ h. long_of (has_long left) (has_long filter) (has_long bound) is.shaped.short h;
+  front = is.shaped.front;
 }
 
 -- no name, if the filter can't match what is left of new names
-pub ends_none : (left right : List (List ℕ)) (places : List ℕ) (filter bound : List (List ℕ))
-    (qs : List (List ℕ × ℕ)) (fs : List (List ℕ))
+pub ends_none : {left : List (List ℕ)} (right : List (List ℕ)) (places : List ℕ)
+    {filter bound : List (List ℕ)} {qs : List (List ℕ × ℕ)} {fs : List (List ℕ)}
     → IsBinding left (zip right places) filter bound qs fs
     → ((n : List (List ℕ)) → levels_match fs (made left n qs) ≡ false)
     → IsBoundIfAny left right places filter None
-ends_none left right places filter bound qs fs is not_free n m =
-    is.same n m
-    ∙ ap (λ b. levels_match bound n && b) (not_free n) ∙ and-false (levels_match bound n)
+ends_none right places {bound = bound} is not_free n m =
+    is.same n m ∙ and_right (levels_match bound n) _ (not_free n)
 
 -- what may end matches no level
 end_match : (fs : List (List ℕ)) → levels_match fs [] ≡ may_end fs
@@ -112,15 +108,11 @@ end_match (f ∷ fs) = at (is_last_hash f fs) refl
     at false e = match_end f fs e
 
 -- where the right side has ended, new names end
-pub ends_last : (left right : List (List ℕ)) (places : List ℕ) (filter bound fs : List (List ℕ))
-    → IsBinding left (zip right places) filter bound [] fs
+pub ends_last : {left : List (List ℕ)} (right : List (List ℕ)) (places : List ℕ)
+    {filter bound fs : List (List ℕ)} → IsBinding left (zip right places) filter bound [] fs
     → IsBoundIfAny left right places filter (cond (may_end fs) (Some bound) None)
-ends_last left right places filter bound fs is = at (may_end fs) refl
-  where
-    at : (b : Bool) → may_end fs ≡ b
-        → IsBoundIfAny left right places filter (cond b (Some bound) None)
-    at true e = ends_bound left right places filter bound [] fs is (λ n. end_match fs ∙ e)
-    at false e = ends_none left right places filter bound [] fs is (λ n. end_match fs ∙ e)
+ends_last {left} right places {filter} {bound} {fs} is =
+    grind (arith, ends_bound, end_match, ends_none)
 
 -- a filter that has ended matches no more levels
 pub none_left : (left n : List (List ℕ)) (q : List ℕ × ℕ) (qs : List (List ℕ × ℕ))
@@ -173,8 +165,7 @@ tail_fit (x ∷ y ∷ ys) fs f g =
       nul = is.nul;
       slash = is.slash;
       level = is.level;
-      hash = (λ i. (length rest == 0) || not (inner_lacks x (y ∷ ys) f inner i))
-          ∙ or_true (length rest == 0);
+      hash = or_right (length rest == 0) _ (ap not (inner_lacks x (y ∷ ys) f inner));
       after = tail_fit (y ∷ ys) fs is.after g;
     })
 
@@ -183,10 +174,9 @@ tail_short : (ls fs : List (List ℕ)) → has_long ls ≡ false → has_long fs
 tail_short [] fs f g = g
 tail_short (x ∷ []) fs f g = g
 tail_short (x ∷ y ∷ ys) fs f g =
-    let parts = or_parts (is_long x) (has_long (y ∷ ys)) f in
+    let parts = or_parts (is_long x) _ f in
     ap (λ ls. has_long (ls ++ fs)) (parents-cons x y ys)
-    ∙ or_from (is_long x) (has_long (parents (y ∷ ys) ++ fs)) parts.0
-    (tail_short (y ∷ ys) fs parts.1 g)
+    ∙ or_from _ _ parts.0 (tail_short (y ∷ ys) fs parts.1 g)
 
 tail_front : (left ls fs : List (List ℕ)) → ends_with_hash ls ≡ true
     → is_hash (level_at ls 0) ≡ is_hash (level_at left 0)
@@ -194,7 +184,7 @@ tail_front : (left ls fs : List (List ℕ)) → ends_with_hash ls ≡ true
     → is_wildcard (level_at (parents ls ++ fs) 0) ≡ true → is_wildcard (level_at left 0) ≡ true
 tail_front left [] fs h same f w = absurd (let k : false ≡ true = h in cc)
 tail_front left (x ∷ []) fs h same f w =
-    ap (λ b. is_plus (level_at left 0) || b) (sym same ∙ h) ∙ or_true (is_plus (level_at left 0))
+    or_right (is_plus (level_at left 0)) _ (sym same ∙ h)
 tail_front left (x ∷ y ∷ ys) fs h same f w =
     f (sym (ap (λ ls. is_wildcard (level_at (ls ++ fs) 0)) (parents-cons x y ys)) ∙ w)
 
@@ -212,26 +202,28 @@ hash_made left n q e =
     at false false e f = absurd (let k : false ≡ true = f in cc)
 
 -- the left side's levels before its `#`, and then what is left of the filter
-pub ends_tail : (left right : List (List ℕ)) (places : List ℕ) (filter bound : List (List ℕ))
-    (q : List ℕ × ℕ) (qs : List (List ℕ × ℕ)) (fs : List (List ℕ))
+pub ends_tail : {left right : List (List ℕ)} {places : List ℕ} {filter bound : List (List ℕ)}
+    (q : List ℕ × ℕ) (qs : List (List ℕ × ℕ)) {fs : List (List ℕ)}
     → IsBinding left (zip right places) filter bound (q ∷ qs) fs → is_hash q.0 ≡ true
     → IsBound left right places filter (parents bound ++ fs)
-ends_tail left right places filter bound q (r ∷ qs) fs is e =
+ends_tail q (r ∷ qs) is e =
     let part = fit_parts q.0 (firsts (r ∷ qs)) is.right in
     absurd (let k : false ≡ true =
     sym (λ i. eqb-suc-zero (length (firsts qs)) i
     || not (contains_byte 35 (text_is q.0 (codes "#") e i))) ∙ part.hash in cc)
-ends_tail left right places filter bound q [] fs is e =
+ends_tail {left} {filter = filter} {bound} q [] {fs} is e =
+    let shaped = is.shaped in
     let ends : ends_with_hash bound ≡ true =
-    is.hashes (length bound - 1) ∙ ap (λ k. is_hash (level_at left (k - 1))) is.size ∙ is.tail e in
+    shaped.hashes (length bound - 1) ∙ ap (λ k. is_hash (level_at left (k - 1))) shaped.size
+    ∙ is.tail e in
     record {
       same = λ n m.
           is.same n m
           ∙ ap (λ ls. levels_match bound n && levels_match fs ls)
-          (hash_made left n q e ∙ ap (λ k. drop (k - 1) n) (sym is.size))
-          ∙ sym (tail_match bound fs n is.fit ends);
-      fit = tail_fit bound fs is.fit is.rest;
+          (hash_made left n q e ∙ ap (λ k. drop (k - 1) n) (sym shaped.size))
+          ∙ sym (tail_match bound fs n shaped.fit ends);
+      fit = tail_fit bound fs shaped.fit is.rest;
       long = λ h. long_of (has_long left) (has_long filter) (has_long (parents bound ++ fs))
-          (λ a b. tail_short bound fs (is.short a b) (is.short_rest b)) h;
-      front = tail_front left bound fs ends (is.hashes 0) is.front;
+          (λ a b. tail_short bound fs (shaped.short a b) (is.short_rest b)) h;
+      front = tail_front left bound fs ends (shaped.hashes 0) shaped.front;
     }

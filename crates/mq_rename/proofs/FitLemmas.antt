@@ -1,14 +1,13 @@
 -- Levels that a filter may have.
-use Rattle.std.proofs.Common.{◌≡◌, ◌==◌, ℕ, ◌-◌, Bool, true, false, not, ◌&&◌, ◌||◌, List, [], ◌∷◌}
-use Rattle.std.proofs.Common.{length, take, refl, ap, sym, ◌∙◌, arith, suc, cond}
-use Rattle.std.specs.Prelude.{codes, nat_le, nat_lt}
+use Rattle.std.proofs.Common.{◌≡◌, ◌==◌, ℕ, Bool, true, false, not, ◌&&◌, ◌||◌, List, [], ◌∷◌}
+use Rattle.std.proofs.Common.{length, refl, ap, sym, ◌∙◌, arith, cond}
+use Rattle.std.specs.Prelude.{codes}
 use Rattle.std.specs.List.{list_all, onto_first}
 use Rattle.std.specs.Str.{bytes_eq}
 use Rattle.std.proofs.Math.Dec.{eqb-suc-zero}
-use Rattle.std.proofs.lemmas.Bool.{and_parts, and_from, not-true}
+use Rattle.std.proofs.lemmas.Bool.{and_parts, and_from, false_from_ne_true, or_right}
 use Rattle.mq_topic.specs.Levels.{levels, is_slash}
-use Rattle.mq_topic.specs.Texts.{contains_byte, is_level, parents, wildcards_fit, is_text}
-use Rattle.mq_topic.specs.Texts.{is_filter}
+use Rattle.mq_topic.specs.Texts.{contains_byte, is_level, parents, wildcards_fit, is_filter}
 use Rattle.mq_topic.proofs.ByteLemmas.{text_is}
 use Rattle.mq_topic.proofs.TextLemmas.{levels_lack}
 use Rattle.mq_rename.specs.Lists.{are_fit, is_hash, is_last_hash}
@@ -30,7 +29,7 @@ fit_parts l ls h =
     let nul = not (contains_byte 0 l) in
     let slash = not (contains_byte 47 l) in
     let last = length ls == 0 || not (contains_byte 35 l) in
-    let four = and_parts (nul && slash && is_level l && last) (are_fit ls) h in
+    let four = and_parts (nul && slash && is_level l && last) _ h in
     let three = and_parts (nul && slash && is_level l) last four.0 in
     let two = and_parts (nul && slash) (is_level l) three.0 in
     let one = and_parts nul slash two.0 in
@@ -41,27 +40,19 @@ fit_from l ls h = rw (h.nul, h.slash, h.level, h.hash, h.after) refl
 
 -- a level without `#` is not `#`
 pub lacks_hash : (l : List ℕ) → contains_byte 35 l ≡ false → is_hash l ≡ false
-lacks_hash l h = at (is_hash l) refl
-  where
-    at : (b : Bool) → is_hash l ≡ b → is_hash l ≡ false
-    at false e = e
-    at true e = absurd (let k : false ≡ true =
-        sym h ∙ ap (contains_byte 35) (text_is l (codes "#") e) in cc)
+lacks_hash l h = false_from_ne_true _ (λ e.
+    let k : false ≡ true = sym h ∙ ap (contains_byte 35) (text_is l (codes "#") e) in cc)
 
 -- no level but a last `#` has a `#` in it
 pub inner_lacks : (l : List ℕ) (ls : List (List ℕ)) → are_fit (l ∷ ls) ≡ true
     → is_last_hash l ls ≡ false → contains_byte 35 l ≡ false
 inner_lacks l ls h e =
     let is = fit_parts l ls h in
-    let level = and_parts (not (contains_byte 43 l) || bytes_eq l (codes "+"))
-    (not (contains_byte 35 l) || bytes_eq l (codes "#")) is.level in
+    let level = and_parts (not (contains_byte 43 l) || bytes_eq l (codes "+")) _ is.level in
     one (length ls == 0) (contains_byte 35 l) (is_hash l) is.hash level.1 e
   where
     one : (z c s : Bool) → (z || not c) ≡ true → (not c || s) ≡ true → (s && z) ≡ false → c ≡ false
-    one z false s a b e = refl
-    one true true true a b e = absurd (let k : true ≡ false = e in cc)
-    one true true false a b e = absurd (let k : false ≡ true = b in cc)
-    one false true s a b e = absurd (let k : false ≡ true = a in cc)
+    one z c s a b e = grind arith
 
 pub inner_is_not : (l : List ℕ) (ls : List (List ℕ)) → are_fit (l ∷ ls) ≡ true
     → is_last_hash l ls ≡ false → is_hash l ≡ false
@@ -74,10 +65,7 @@ no_last l ls e = ap (λ b. b && (length ls == 0)) e
 -- the levels before the last, one on
 pub parents-cons : (l m : List ℕ) (ms : List (List ℕ))
     → parents (l ∷ m ∷ ms) ≡ l ∷ parents (m ∷ ms)
-parents-cons l m ms =
-    let more : length (l ∷ m ∷ ms) - 1 ≡ suc (length ms) = omega arith in
-    let less : length (m ∷ ms) - 1 ≡ length ms = omega arith in
-    ap (λ k. take k (l ∷ m ∷ ms)) more ∙ ap (λ k. l ∷ take k (m ∷ ms)) (sym less)
+parents-cons l m ms = grind (arith)
 
 -- no piece between slashes has one
 slash_onto : (x : ℕ) (ls : List (List ℕ)) → (x == 47) ≡ false → all_lack 47 ls ≡ true
@@ -100,42 +88,29 @@ fit_of : (ls : List (List ℕ)) → all_lack 0 ls ≡ true → all_lack 47 ls �
     → list_all is_level ls ≡ true → all_lack 35 (parents ls) ≡ true → are_fit ls ≡ true
 fit_of [] a b c d = refl
 fit_of (l ∷ []) a b c d = fit_from l [] (record {
-  nul = (and_parts (not (contains_byte 0 l)) (all_lack 0 []) a).0;
-  slash = (and_parts (not (contains_byte 47 l)) (all_lack 47 []) b).0;
-  level = (and_parts (is_level l) (list_all is_level []) c).0;
+  nul = (and_parts _ _ a).0;
+  slash = (and_parts _ _ b).0;
+  level = (and_parts _ _ c).0;
   hash = refl;
   after = refl;
 })
 fit_of (l ∷ m ∷ ms) a b c d =
-    let more : all_lack 35 (l ∷ parents (m ∷ ms)) ≡ true =
-    sym (ap (all_lack 35) (parents-cons l m ms)) ∙ d in
-    let hash = and_parts (not (contains_byte 35 l)) (all_lack 35 (parents (m ∷ ms))) more in
+    let nul = and_parts (not (contains_byte 0 l)) _ a in
+    let slash = and_parts (not (contains_byte 47 l)) _ b in
+    let level = and_parts (is_level l) _ c in
+    let hash = and_parts (not (contains_byte 35 l)) _
+    (sym (ap (all_lack 35) (parents-cons l m ms)) ∙ d) in
     fit_from l (m ∷ ms) (record {
-      nul = (and_parts (not (contains_byte 0 l)) (all_lack 0 (m ∷ ms)) a).0;
-      slash = (and_parts (not (contains_byte 47 l)) (all_lack 47 (m ∷ ms)) b).0;
-      level = (and_parts (is_level l) (list_all is_level (m ∷ ms)) c).0;
-      hash = (λ i. (length (m ∷ ms) == 0) || hash.0 i) ∙ or_true (length (m ∷ ms) == 0);
-      after = fit_of (m ∷ ms) (and_parts (not (contains_byte 0 l)) (all_lack 0 (m ∷ ms)) a).1
-          (and_parts (not (contains_byte 47 l)) (all_lack 47 (m ∷ ms)) b).1
-          (and_parts (is_level l) (list_all is_level (m ∷ ms)) c).1 hash.1;
+      nul = nul.0;
+      slash = slash.0;
+      level = level.0;
+      hash = or_right (length (m ∷ ms) == 0) _ hash.0;
+      after = fit_of (m ∷ ms) nul.1 slash.1 level.1 hash.1;
     })
-  where
-    or_true : (b : Bool) → (b || true) ≡ true
-    or_true true = refl
-    or_true false = refl
 
 -- the levels of a filter
 pub filter_is_fit : (text : List ℕ) → is_filter text ≡ true → are_fit (levels text) ≡ true
-filter_is_fit text h =
-    let front = (and_parts (is_text text && wildcards_fit (levels text))
-    (nat_le (length (levels text)) 200) h).0 in
-    let both = and_parts (is_text text) (wildcards_fit (levels text)) front in
-    let wild = and_parts (list_all is_level (levels text)) (all_lack 35 (parents (levels text)))
-    both.1 in
-    let nul = (and_parts (nat_lt 0 (length text) && nat_le (length text) 65535)
-    (not (contains_byte 0 text)) both.0).1 in
-    fit_of (levels text) (levels_lack 0 text (not-true (contains_byte 0 text) nul))
-    (levels_without text) wild.0 wild.1
+filter_is_fit text h = grind (arith, all_lack, fit_of, levels_lack, levels_without)
 
 -- each of them lacks a slash, and NUL
 pub fit_slash : (ls : List (List ℕ)) → are_fit ls ≡ true → all_lack 47 ls ≡ true

@@ -1,8 +1,7 @@
 -- Texts that are made of levels.
-use Rattle.std.proofs.Common.{◌≡◌, ◌==◌, ℕ, ◌*◌, ◌≤◌, ◌<◌, true, false, cond, not}
-use Rattle.std.proofs.Common.{◌||◌, List, [], ◌∷◌, ◌++◌, length, Bor, refl, ap, ◌∙◌}
-use Rattle.std.proofs.Common.{arith, append-nil, length-append}
-use Rattle.std.specs.List.{join_by, join_with_byte, onto_first}
+use Rattle.std.proofs.Common.{◌≡◌, ◌==◌, ℕ, ◌*◌, ◌≤◌, ◌<◌, true, false, not, List, [], ◌∷◌, ◌++◌}
+use Rattle.std.proofs.Common.{length, Bor, refl, ap, arith, append-nil, length-append}
+use Rattle.std.specs.List.{join_by, join_with_byte}
 use Rattle.std.proofs.lemmas.Bool.{and_parts, or_parts, not-true, ltb-false}
 use Rattle.std.proofs.lemmas.List.Folds.{list_any-append}
 use Rattle.mq_topic.specs.Levels.{levels}
@@ -22,30 +21,18 @@ joined_is (l ∷ m ∷ ms) = ap (λ t. l.now ++ (47 ∷ t)) (joined_is (m ∷ ms
 
 levels_last : (l : List ℕ) → contains_byte 47 l ≡ false → levels l ≡ l ∷ []
 levels_last [] h = refl
-levels_last (x ∷ xs) h =
-    let parts = or_parts (x == 47) (contains_byte 47 xs) h in
-    (λ i. cond (parts.0 i) ([] ∷ levels xs) (onto_first x (levels xs)))
-    ∙ ap (onto_first x) (levels_last xs parts.1)
+levels_last (x ∷ xs) h = grind (arith, levels_last xs, or_parts)
 
 levels_first : (l more : List ℕ) → contains_byte 47 l ≡ false
     → levels (l ++ (47 ∷ more)) ≡ l ∷ levels more
 levels_first [] more h = refl
-levels_first (x ∷ xs) more h =
-    let parts = or_parts (x == 47) (contains_byte 47 xs) h in
-    (λ i. cond (parts.0 i) ([] ∷ levels (xs ++ (47 ∷ more)))
-    (onto_first x (levels (xs ++ (47 ∷ more)))))
-    ∙ ap (onto_first x) (levels_first xs more parts.1)
+levels_first (x ∷ xs) more h = grind (arith, levels_first xs more, or_parts)
 
 -- levels without a slash are those of the text that they make
 pub levels-joined : (l : List ℕ) (ls : List (List ℕ)) → all_lack 47 (l ∷ ls) ≡ true
     → levels (joined (l ∷ ls)) ≡ l ∷ ls
-levels-joined l [] h =
-    levels_last l (not-true (contains_byte 47 l)
-    (and_parts (not (contains_byte 47 l)) (all_lack 47 []) h).0)
-levels-joined l (m ∷ ms) h =
-    let parts = and_parts (not (contains_byte 47 l)) (all_lack 47 (m ∷ ms)) h in
-    levels_first l (joined (m ∷ ms)) (not-true (contains_byte 47 l) parts.0)
-    ∙ ap (λ r. l ∷ r) (levels-joined m ms parts.1)
+levels-joined l [] h = grind (arith, levels_last, not-true, and_parts, all_lack)
+levels-joined l (m ∷ ms) h = grind (arith, levels-joined m ms, all_lack, levels_first)
 
 -- a byte that no level has the text hasn't, unless it is a slash
 pub joined_lacks : (b : ℕ) (ls : List (List ℕ)) → (47 == b) ≡ false → all_lack b ls ≡ true
@@ -54,9 +41,7 @@ joined_lacks b [] n h = refl
 joined_lacks b (l ∷ []) n h =
     not-true (contains_byte b l) (and_parts (not (contains_byte b l)) (all_lack b []) h).0
 joined_lacks b (l ∷ m ∷ ms) n h =
-    let parts = and_parts (not (contains_byte b l)) (all_lack b (m ∷ ms)) h in
-    list_any-append (λ c. c == b) l (47 ∷ joined (m ∷ ms))
-    ∙ (λ i. not-true (contains_byte b l) parts.0 i || (n i || joined_lacks b (m ∷ ms) n parts.1 i))
+    grind (arith, joined_lacks b (m ∷ ms) n, all_lack, list_any-append)
 
 -- short levels make a short text
 pub joined_short : (ls : List (List ℕ)) → has_long ls ≡ false

@@ -1,48 +1,36 @@
 -- What two filters have in common.
-use Rattle.std.proofs.Common.{◌≡◌, ◌==◌, ℕ, Bool, true, false, cond, not, ◌&&◌, ◌||◌, List, []}
-use Rattle.std.proofs.Common.{◌∷◌, length, refl, ap, sym, ◌∙◌, ◌⊎◌}
+use Rattle.std.proofs.Common.{◌≡◌, ◌==◌, ℕ, Bool, true, false, cond, not, ◌&&◌, ◌||◌, List, [], ◌∷◌}
+use Rattle.std.proofs.Common.{length, refl, ap, sym, ◌∙◌, ◌⊎◌, arith}
 use Rattle.std.specs.Prelude.{Option, Some, None}
 use Rattle.std.specs.Str.{bytes_eq}
 use Rattle.std.proofs.Math.Bool.{and-true, and-false}
-use Rattle.std.proofs.lemmas.Bool.{or_parts, or_from}
+use Rattle.std.proofs.lemmas.Bool.{false_from_ne_true, or_parts, or_from, or_right}
 use Rattle.mq_topic.specs.Matching.{level_at, level_matches, matches}
 use Rattle.mq_topic.proofs.ByteLemmas.{text_is}
-use Rattle.mq_rename.specs.Lists.{are_fit, has_long, is_hash, is_last_hash, is_long}
-use Rattle.mq_rename.specs.Lists.{is_plus}
+use Rattle.mq_rename.specs.Lists.{are_fit, has_long, is_hash, is_last_hash, is_long, is_plus}
 use Rattle.mq_rename.specs.Lists.{levels_match}
 use Rattle.mq_rename.specs.Meets.{behind, met_level, met_levels}
-use Rattle.mq_rename.proofs.FitLemmas.{fit_from, fit_parts, inner_is_not}
-use Rattle.mq_rename.proofs.FitLemmas.{inner_lacks, no_last}
-use Rattle.mq_rename.proofs.MatchLemmas.{match_cons}
-use Rattle.mq_rename.proofs.MatchLemmas.{match_end}
-use Rattle.mq_rename.proofs.MatchLemmas.{match_hash}
+use Rattle.mq_rename.proofs.FitLemmas.{fit_from, fit_parts, inner_is_not, inner_lacks, no_last}
+use Rattle.mq_rename.proofs.MatchLemmas.{match_cons, match_end, match_hash}
 
 -- ---- truth values
 pub and_same : (a : Bool) → (a && a) ≡ a
-and_same true = refl
-and_same false = refl
+and_same a = grind arith
 
 pub and_comm : (a b : Bool) → (a && b) ≡ (b && a)
-and_comm true b = sym (and-true b)
-and_comm false b = sym (and-false b)
+and_comm a b = grind arith
 
 -- the parts of two tests, the other way round
 pub and_swap : (a b c d : Bool) → ((a && b) && (c && d)) ≡ ((a && c) && (b && d))
-and_swap true true c d = refl
-and_swap true false true d = refl
-and_swap true false false d = refl
-and_swap false b c d = refl
+and_swap a b c d = grind arith
 
 -- a test that counts only where another passes
 pub under : (c r s : Bool) → (c ≡ true → r ≡ s) → (r && c) ≡ (s && c)
-under true r s f = ap (λ b. b && true) (f refl)
-under false r s f = and-false r ∙ sym (and-false s)
+under c r s f = grind arith
 
 -- one of two tests passes where a third would not without
 pub long_of : (a b c : Bool) → (a ≡ false → b ≡ false → c ≡ false) → c ≡ true → (a || b) ≡ true
-long_of true b c f h = refl
-long_of false true c f h = refl
-long_of false false c f h = absurd (let k : false ≡ true = sym (f refl refl) ∙ h in cc)
+long_of a b c f h = grind arith
 
 -- ---- levels, if there are some
 abbrev pub match_if_any : Option (List (List ℕ)) → List (List ℕ) → Bool
@@ -74,24 +62,22 @@ level_if_any (Some wanted) l = level_matches wanted l
 -- a level that two have in common matches what both match
 pub met_level_matches : (x y l : List ℕ)
     → level_if_any (met_level x y) l ≡ (level_matches x l && level_matches y l)
-met_level_matches x y l = at (is_plus x) (is_plus y) (bytes_eq x y) refl refl refl
+met_level_matches x y l =
+    at (is_plus x) (is_plus y || bytes_eq x y)
+    ∙ both (is_plus x) (is_plus y) (bytes_eq x y) (bytes_eq x l) (bytes_eq y l)
+    (λ e. ap (λ t. bytes_eq t l) (text_is x y e))
+    (λ e f. false_from_ne_true _ (λ g.
+    let k : false ≡ true = sym e ∙ ap (bytes_eq x) (text_is y l g) ∙ f in cc))
   where
-    differ : (b c : Bool) → bytes_eq x l ≡ b → bytes_eq y l ≡ c → bytes_eq x y ≡ false
-        → false ≡ (b && c)
-    differ false c e f g = refl
-    differ true false e f g = refl
-    differ true true e f g = absurd (let k : false ≡ true =
-        sym g ∙ ap (bytes_eq x) (text_is y l f) ∙ e in cc)
+    at : (p r : Bool) → level_if_any (cond p (Some y) (cond r (Some x) None)) l
+        ≡ cond p (level_matches y l) (cond r (level_matches x l) false)
+    at true r = refl
+    at false true = refl
+    at false false = refl
 
-    at : (p q e : Bool) → is_plus x ≡ p → is_plus y ≡ q → bytes_eq x y ≡ e
-        → level_if_any (cond p (Some y) (cond (q || e) (Some x) None)) l
-        ≡ ((p || bytes_eq x l) && (q || bytes_eq y l))
-    at true q e hp hq he = ap (λ b. b || bytes_eq y l) hq
-    at false true e hp hq he = ap (λ b. b || bytes_eq x l) hp ∙ sym (and-true (bytes_eq x l))
-    at false false true hp hq he =
-        ap (λ b. b || bytes_eq x l) hp ∙ sym (and_same (bytes_eq x l))
-        ∙ ap (λ t. bytes_eq x l && bytes_eq t l) (text_is x y he)
-    at false false false hp hq he = differ (bytes_eq x l) (bytes_eq y l) refl refl he
+    both : (p q e a b : Bool) → (e ≡ true → a ≡ b) → (e ≡ false → a ≡ true → b ≡ false)
+        → cond p (q || b) (cond (q || e) (p || a) false) ≡ ((p || a) && (q || b))
+    both p q e a b f g = grind arith
 
 -- it is one of the two, if there is one: what is so of both and of none is so of it
 pub met_level_by : (P : Option (List ℕ) → Type 0) (x y : List ℕ) → P None → P (Some x) → P (Some y)
@@ -104,18 +90,18 @@ met_level_by P x y none left right = at (is_plus x) (is_plus y || bytes_eq x y)
     at false false = none
 
 -- ---- what they match
-abbrev hash_if_any : Option (List ℕ) → Bool
+abbrev pub hash_if_any : Option (List ℕ) → Bool
 hash_if_any None = false
 hash_if_any (Some l) = is_hash l
 
-behind_match : (o : Option (List ℕ)) (t : Option (List (List ℕ))) (m : List ℕ)
+pub behind_match : (o : Option (List ℕ)) (t : Option (List (List ℕ))) (m : List ℕ)
     (ms : List (List ℕ)) → hash_if_any o ≡ false
     → match_if_any (behind o t) (m ∷ ms) ≡ (level_if_any o m && match_if_any t ms)
 behind_match None t m ms e = refl
 behind_match (Some l) None m ms e = sym (and-false (level_matches l m))
 behind_match (Some l) (Some ls) m ms e = match_cons l m ls ms (no_last l ls e)
 
-behind_end : (o : Option (List ℕ)) (t : Option (List (List ℕ))) → hash_if_any o ≡ false
+pub behind_end : (o : Option (List ℕ)) (t : Option (List (List ℕ))) → hash_if_any o ≡ false
     → match_if_any (behind o t) [] ≡ false
 behind_end None t e = refl
 behind_end (Some l) None e = refl
@@ -128,16 +114,9 @@ met_step : (x y : List ℕ) (xs ys : List (List ℕ)) → is_last_hash x xs ≡ 
     ≡ (levels_match xs n && levels_match ys n))
     → (n : List (List ℕ)) → match_if_any (behind (met_level x y) (met_levels xs ys)) n
     ≡ (levels_match (x ∷ xs) n && levels_match (y ∷ ys) n)
-met_step x y xs ys e f h k rest [] =
-    behind_end (met_level x y) (met_levels xs ys)
-    (met_level_by (λ o. hash_if_any o ≡ false) x y refl h k)
-    ∙ sym (ap (λ b. b && levels_match (y ∷ ys) []) (match_end x xs e))
+met_step x y xs ys e f h k rest [] = grind (arith, behind_end, met_level_by, hash_if_any, match_end)
 met_step x y xs ys e f h k rest (m ∷ ms) =
-    behind_match (met_level x y) (met_levels xs ys) m ms
-    (met_level_by (λ o. hash_if_any o ≡ false) x y refl h k)
-    ∙ (λ i. met_level_matches x y m i && rest ms i)
-    ∙ and_swap (level_matches x m) (level_matches y m) (levels_match xs ms) (levels_match ys ms)
-    ∙ sym (λ i. match_cons x m xs ms e i && match_cons y m ys ms f i)
+    grind (arith, behind_match, met_level_by, hash_if_any, met_level_matches, and_swap, match_cons)
 
 met_none : (y : List ℕ) (ys n : List (List ℕ)) (b : Bool) → is_last_hash y ys ≡ b
     → match_if_any (cond b (Some []) None) n ≡ (levels_match [] n && levels_match (y ∷ ys) n)
@@ -183,13 +162,9 @@ behind_fit x xs (Some ls) f e g =
       nul = is.nul;
       slash = is.slash;
       level = is.level;
-      hash = (λ i. (length ls == 0) || not (inner_lacks x xs f e i)) ∙ or_true (length ls == 0);
+      hash = or_right (length ls == 0) _ (ap not (inner_lacks x xs f e));
       after = g;
     })
-  where
-    or_true : (b : Bool) → (b || true) ≡ true
-    or_true true = refl
-    or_true false = refl
 
 end_fit : (b : Bool) → fit_if_any (cond b (Some []) None) ≡ true
 end_fit true = refl
@@ -217,7 +192,7 @@ met_fit (x ∷ xs) (y ∷ ys) f g =
 behind_short : (x : List ℕ) (t : Option (List (List ℕ))) → is_long x ≡ false
     → long_if_any t ≡ false → long_if_any (behind (Some x) t) ≡ false
 behind_short x None f g = refl
-behind_short x (Some ls) f g = or_from (is_long x) (has_long ls) f g
+behind_short x (Some ls) f g = or_from _ _ f g
 
 end_short : (b : Bool) → long_if_any (cond b (Some []) None) ≡ false
 end_short true = refl
@@ -229,8 +204,8 @@ met_short [] [] f g = refl
 met_short [] (y ∷ ys) f g = end_short (is_last_hash y ys)
 met_short (x ∷ xs) [] f g = end_short (is_last_hash x xs)
 met_short (x ∷ xs) (y ∷ ys) f g =
-    let left = or_parts (is_long x) (has_long xs) f in
-    let right = or_parts (is_long y) (has_long ys) g in
+    let left = or_parts _ _ f in
+    let right = or_parts _ _ g in
     at (is_last_hash x xs) (is_last_hash y ys)
     (met_level_by (λ o. long_if_any (behind o (met_levels xs ys)) ≡ false) x y refl
     (behind_short x (met_levels xs ys) left.0 (met_short xs ys left.1 right.1))

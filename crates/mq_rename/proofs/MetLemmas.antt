@@ -2,23 +2,19 @@
 use Rattle.std.proofs.Common.{◌≡◌, ◌==◌, ℕ, ◌<◌, Bool, true, false, cond, not, ◌&&◌, ◌||◌, List, []}
 use Rattle.std.proofs.Common.{◌∷◌, length, refl, ap, sym, ◌∙◌, arith, ◌⊎◌, inl, inr}
 use Rattle.std.specs.Prelude.{Option, Some, None}
-use Rattle.std.proofs.Math.Bool.{and-false}
-use Rattle.std.proofs.lemmas.Bool.{and_parts}
 use Rattle.mq_topic.specs.Levels.{levels}
 use Rattle.mq_topic.specs.Texts.{is_filter}
 use Rattle.mq_topic.proofs.Walk.{levels-nonempty}
 use Rattle.mq_topic.specs.Matching.{is_hidden, is_wildcard, level_at, matches}
 use Rattle.mq_rename.specs.declared.fault.MeetFault.{MeetFault}
 use Rattle.mq_rename.specs.declared.fault.MeetFault.TheVariants.{Memory, TooLong}
-use Rattle.mq_rename.specs.Lists.{IsFault, are_fit, has_long, is_last_hash}
-use Rattle.mq_rename.specs.Lists.{levels_match}
+use Rattle.mq_rename.specs.Lists.{IsFault, are_fit, has_long, is_last_hash, levels_match}
 use Rattle.mq_rename.specs.Meets.{behind, met_level, met_levels}
 use Rattle.mq_rename.proofs.FitLemmas.{filter_is_fit}
 use Rattle.mq_rename.proofs.MatchLemmas.{dollar_is_text, front_is, has_dollar}
-use Rattle.mq_rename.proofs.MatchLemmas.{matches_parts}
-use Rattle.mq_rename.proofs.MeetLemmas.{BeginIfAny, all_match_if_any, and_comm, and_same, and_swap}
-use Rattle.mq_rename.proofs.MeetLemmas.{fit_if_any, long_if_any, long_of, match_if_any, met_fit}
-use Rattle.mq_rename.proofs.MeetLemmas.{met_level_by, met_match, met_short, under}
+use Rattle.mq_rename.proofs.MeetLemmas.{BeginIfAny, all_match_if_any, and_comm, fit_if_any}
+use Rattle.mq_rename.proofs.MeetLemmas.{long_if_any, long_of, match_if_any, met_fit, met_level_by}
+use Rattle.mq_rename.proofs.MeetLemmas.{met_match, met_short}
 
 -- ---- how they begin
 met_front : (x y : List ℕ) (xs ys : List (List ℕ))
@@ -46,25 +42,13 @@ fronts_agree : (x y m : List ℕ) (xs ys ms : List (List ℕ)) → is_hidden (x 
     → levels_match (y ∷ ys) (m ∷ ms) ≡ true
     → (has_dollar m && is_wildcard y) ≡ (has_dollar m && is_wildcard x)
 fronts_agree x y m xs ys ms h k f g =
-    at (has_dollar m) (is_wildcard x) (is_wildcard y) refl refl refl
+    agree (has_dollar m) (is_wildcard x) (is_wildcard y) (has_dollar x) (has_dollar y) h k
+    (λ e. ap has_dollar (front_is x m xs ms e f)) (λ e. ap has_dollar (front_is y m ys ms e g))
   where
     -- one that begins with the name's level is hidden from one that begins with a wildcard
-    hides : (u : List ℕ) (d w : Bool) → has_dollar m ≡ true → u ≡ m → has_dollar u ≡ d
-        → w ≡ true → (d && w) ≡ false → ⊥
-    hides u d w dm e hd hw z =
-        let is : d ≡ true = sym hd ∙ ap has_dollar e ∙ dm in
-        let both : (d && w) ≡ true = (λ i. is i && hw i) in
-        let bad : true ≡ false = sym both ∙ z in cc
-
-    at : (d a b : Bool) → has_dollar m ≡ d → is_wildcard x ≡ a → is_wildcard y ≡ b
-        → (d && b) ≡ (d && a)
-    at false a b hd ha hb = refl
-    at true true true hd ha hb = refl
-    at true false false hd ha hb = refl
-    at true true false hd ha hb =
-        absurd (hides y (has_dollar y) (is_wildcard x) hd (front_is y m ys ms hb g) refl ha h)
-    at true false true hd ha hb =
-        absurd (hides x (has_dollar x) (is_wildcard y) hd (front_is x m xs ms ha f) refl hb k)
+    agree : (d a b p q : Bool) → (q && a) ≡ false → (p && b) ≡ false → (a ≡ false → p ≡ d)
+        → (b ≡ false → q ≡ d) → (d && b) ≡ (d && a)
+    agree d a b p q h k f g = grind arith
 
 -- levels that match what two filters match and begin as one of them are their meeting
 same_met : (x y : List ℕ) (xs ys : List (List ℕ)) (o : Option (List (List ℕ)))
@@ -73,32 +57,26 @@ same_met : (x y : List ℕ) (xs ys : List (List ℕ)) (o : Option (List (List �
     → match_if_any o n ≡ (levels_match (x ∷ xs) n && levels_match (y ∷ ys) n)
     → all_match_if_any o n ≡ (matches (x ∷ xs) n && matches (y ∷ ys) n)
 same_met x y xs ys None front h k n e =
-    let p = not (length n == 0) && not (is_hidden (x ∷ xs) n) in
-    let q = not (length n == 0) && not (is_hidden (y ∷ ys) n) in
-    sym (and_swap p (levels_match (x ∷ xs) n) q (levels_match (y ∷ ys) n)
-    ∙ ap (λ b. (p && q) && b) (sym e) ∙ and-false (p && q))
+    not_met (not (length n == 0) && not (is_hidden (x ∷ xs) n)) _
+    (not (length n == 0) && not (is_hidden (y ∷ ys) n)) _ e
+  where
+    not_met : (p a q b : Bool) → false ≡ (a && b) → false ≡ ((p && a) && (q && b))
+    not_met p a q b e = grind arith
 same_met x y xs ys (Some ls) front h k [] e = refl
 same_met x y xs ys (Some ls) front h k (m ∷ ms) e =
-    let a = levels_match (x ∷ xs) (m ∷ ms) in
-    let b = levels_match (y ∷ ys) (m ∷ ms) in
-    let some = not (length (m ∷ ms) == 0) in
-    let r = some && not (is_hidden ls (m ∷ ms)) in
-    let p = some && not (is_hidden (x ∷ xs) (m ∷ ms)) in
-    let q = some && not (is_hidden (y ∷ ys) (m ∷ ms)) in
-    ap (λ c. r && c) e
-    ∙ under (a && b) r (p && q) (λ both.
-    let parts = and_parts a b both in
-    let agree = fronts_agree x y m xs ys ms h k parts.0 parts.1 in
-    ap (λ w. some && not w) (begins front agree)
-    ∙ sym (and_same p)
-    ∙ ap (λ w. p && (some && not w)) (sym agree))
-    ∙ and_swap p q a b
+    are_met (not (length (m ∷ ms) == 0)) (has_dollar m) (is_wildcard (level_at ls 0))
+    (is_wildcard x) (is_wildcard y) _ _ _ (begins front) (fronts_agree x y m xs ys ms h k) e
   where
     begins : (level_at ls 0 ≡ x) ⊎ (level_at ls 0 ≡ y)
-        → (has_dollar m && is_wildcard y) ≡ (has_dollar m && is_wildcard x)
-        → (has_dollar m && is_wildcard (level_at ls 0)) ≡ (has_dollar m && is_wildcard x)
-    begins (inl l) agree = ap (λ u. has_dollar m && is_wildcard u) l
-    begins (inr l) agree = ap (λ u. has_dollar m && is_wildcard u) l ∙ agree
+        → (is_wildcard (level_at ls 0) ≡ is_wildcard x)
+        ⊎ (is_wildcard (level_at ls 0) ≡ is_wildcard y)
+    begins (inl l) = inl (ap is_wildcard l)
+    begins (inr l) = inr (ap is_wildcard l)
+
+    are_met : (s d v p q l a b : Bool) → (v ≡ p) ⊎ (v ≡ q)
+        → (a ≡ true → b ≡ true → (d && q) ≡ (d && p)) → l ≡ (a && b)
+        → ((s && not (d && v)) && l) ≡ (((s && not (d && p)) && a) && ((s && not (d && q)) && b))
+    are_met s d v p q l a b w f e = grind arith
 
 -- the levels that two filters have in common match the names that both match, if neither is hidden
 -- from the other
@@ -118,19 +96,13 @@ met_hidden [] ys p q h n = absurd (omega arith)
 met_hidden (x ∷ xs) [] p q h n = absurd (omega arith)
 met_hidden (x ∷ xs) (y ∷ ys) p q h [] = refl
 met_hidden (x ∷ xs) (y ∷ ys) p q h (m ∷ ms) =
-    at (matches (x ∷ xs) (m ∷ ms) && matches (y ∷ ys) (m ∷ ms)) refl
+    never (not (length (m ∷ ms) == 0)) (has_dollar m) (is_wildcard x) (is_wildcard y)
+    (has_dollar y) _ _ h (dollar_is_text y) (λ b w. ap has_dollar (front_is y m ys ms w b))
   where
-    at : (b : Bool) → (matches (x ∷ xs) (m ∷ ms) && matches (y ∷ ys) (m ∷ ms)) ≡ b → b ≡ false
-    at false e = refl
-    at true e =
-        let both = and_parts (matches (x ∷ xs) (m ∷ ms)) (matches (y ∷ ys) (m ∷ ms)) e in
-        let left = matches_parts (x ∷ xs) (m ∷ ms) both.0 in
-        let right = matches_parts (y ∷ ys) (m ∷ ms) both.1 in
-        let front = and_parts (has_dollar y) (is_wildcard x) h in
-        let is = front_is y m ys ms (dollar_is_text y front.0) right.1 in
-        let dollar : has_dollar m ≡ true = sym (ap has_dollar is) ∙ front.0 in
-        let hid : (has_dollar m && is_wildcard x) ≡ true = (λ i. dollar i && front.1 i) in
-        absurd (let k : true ≡ false = sym hid ∙ left.0 in cc)
+    never : (s d v w c a b : Bool) → (c && v) ≡ true → (c ≡ true → w ≡ false)
+        → (b ≡ true → w ≡ false → c ≡ d)
+        → (((s && not (d && v)) && a) && ((s && not (d && w)) && b)) ≡ false
+    never s d v w c a b h f g = grind arith
 
 -- ---- two filters
 -- the levels are those that two filters have in common, neither of which is hidden from the other
@@ -149,25 +121,19 @@ met_is_same a b o is n =
     (filter_is_fit a is.left) (filter_is_fit b is.right) is.shown is.seen n
 
 pub met_is_fit : (a b : List ℕ) (o : Option (List (List ℕ))) → IsMet a b o → fit_if_any o ≡ true
-met_is_fit a b o is =
-    ap fit_if_any is.are
-    ∙ met_fit (levels a) (levels b) (filter_is_fit a is.left) (filter_is_fit b is.right)
+met_is_fit a b o is = grind (arith, fit_if_any, met_fit, filter_is_fit)
 
 -- what is long among them is so in one of the two
 pub met_is_long : (a b : List ℕ) (o : Option (List (List ℕ))) → IsMet a b o
     → long_if_any o ≡ true → (has_long (levels a) || has_long (levels b)) ≡ true
-met_is_long a b o is h =
-    long_of (has_long (levels a)) (has_long (levels b)) (long_if_any o)
-    (λ f g. ap long_if_any is.are ∙ met_short (levels a) (levels b) f g) h
+met_is_long a b o is h = grind (arith, long_of, long_if_any, met_short)
 
 pub met_is_hidden : (a b : List ℕ)
     → (is_hidden (levels a) (levels b) ≡ true) ⊎ (is_hidden (levels b) (levels a) ≡ true)
     → (n : List (List ℕ)) → false ≡ (matches (levels a) n && matches (levels b) n)
 met_is_hidden a b (inl h) n =
     sym (met_hidden (levels a) (levels b) (levels-nonempty a) (levels-nonempty b) h n)
-met_is_hidden a b (inr h) n =
-    sym (and_comm (matches (levels a) n) (matches (levels b) n)
-    ∙ met_hidden (levels b) (levels a) (levels-nonempty b) (levels-nonempty a) h n)
+met_is_hidden a b (inr h) n = grind (arith, and_comm, met_hidden, levels-nonempty)
 
 -- ---- faults
 -- what is shown holds of more

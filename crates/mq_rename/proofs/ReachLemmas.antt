@@ -1,23 +1,20 @@
 -- The filter of a list of levels, and names that are too short to be known from the list.
-use Rattle.std.proofs.Common.{◌≡◌, ◌==◌, ℕ, ◌<◌, ◌≤◌, Bool, true, false, cond, not, ◌&&◌}
-use Rattle.std.proofs.Common.{◌||◌, List, [], ◌∷◌, length, take, refl, ap, sym, ◌∙◌, arith, zero}
-use Rattle.std.proofs.Common.{suc}
-use Rattle.std.proofs.Common.{length-take}
-use Rattle.std.specs.Prelude.{nat_le, nat_lt}
+use Rattle.std.proofs.Common.{◌≡◌, ◌==◌, ℕ, ◌<◌, ◌≤◌, Bool, true, false, not, ◌&&◌, ◌||◌, List, []}
+use Rattle.std.proofs.Common.{◌∷◌, length, take, refl, ap, sym, ◌∙◌, arith, zero, suc, length-take}
+use Rattle.std.specs.Prelude.{nat_le}
 use Rattle.std.specs.Str.{bytes_eq}
 use Rattle.std.proofs.Math.Bool.{and-false, and-true}
 use Rattle.std.proofs.Math.Dec.{eqb-suc-zero}
-use Rattle.std.proofs.lemmas.Bool.{and_from, and_parts, eqb-true, eq-eqb, le-leb, leb-true, lt-ltb}
-use Rattle.std.proofs.lemmas.Bool.{ltb-true, not_from_false, or_from, or_parts}
+use Rattle.std.proofs.lemmas.Bool.{and_parts, cond_both, eqb-true, eq-eqb, le-leb, leb-true, lt-ltb}
+use Rattle.std.proofs.lemmas.Bool.{ltb-true, or_from, or_parts, or_right, true_from_ne_false}
 use Rattle.std.proofs.lemmas.List.Splits.{join_with_byte-slice_split}
 use Rattle.mq_topic.specs.Levels.{levels}
-use Rattle.mq_topic.specs.Matching.{is_hidden, level_at, level_matches, matches}
+use Rattle.mq_topic.specs.Matching.{is_hidden, level_at, matches}
 use Rattle.mq_topic.specs.Texts.{contains_byte, is_filter, is_name, is_plain, is_text}
-use Rattle.mq_topic.specs.Texts.{wildcards_fit}
 use Rattle.mq_topic.proofs.ByteLemmas.{text_is}
 use Rattle.mq_topic.proofs.Walk.{levels-nonempty}
 use Rattle.mq_rename.specs.Joins.{within_reach}
-use Rattle.mq_rename.specs.Lists.{are_fit, has_long, is_hash, is_last_hash, is_long, levels_match}
+use Rattle.mq_rename.specs.Lists.{are_fit, has_long, is_hash, is_last_hash, levels_match}
 use Rattle.mq_rename.proofs.FitLemmas.{fit_from, fit_nul, fit_parts, fit_slash, fit_wildcards}
 use Rattle.mq_rename.proofs.FitLemmas.{inner_is_not, no_last}
 use Rattle.mq_rename.proofs.JoinLemmas.{joined, joined_lacks, joined_short, joined_some}
@@ -30,12 +27,7 @@ name_few n h = leb-true (length (levels n)) 200
     (and_parts (is_text n && is_plain n) (nat_le (length (levels n)) 200) h).1
 
 pub name_some : (n : List ℕ) → is_name n ≡ true → 0 < length n
-name_some n h =
-    let text = (and_parts (is_text n) (is_plain n)
-    (and_parts (is_text n && is_plain n) (nat_le (length (levels n)) 200) h).0).0 in
-    let sizes = (and_parts (nat_lt 0 (length n) && nat_le (length n) 65535)
-    (not (contains_byte 0 n)) text).0 in
-    ltb-true 0 (length n) (and_parts (nat_lt 0 (length n)) (nat_le (length n) 65535) sizes).0
+name_some n h = grind (arith, and_parts, ltb-true)
 
 -- ---- a `#` behind as many levels as a name has
 pub last_is_long : (x : List ℕ) (xs : List (List ℕ)) → 0 < length xs → is_last_hash x xs ≡ false
@@ -50,15 +42,9 @@ reach_match zero (x ∷ xs) (m ∷ ms) e h f s = absurd (omega arith)
 reach_match zero (x ∷ []) [] e h f s = sym (match_hash x [] [] (and-true (is_hash x) ∙ h))
 reach_match zero (x ∷ y ∷ xs) [] e h f s = absurd (omega arith)
 reach_match (suc k) (x ∷ xs) [] e h f s =
-    let inner = last_is_long x xs (omega arith) in
-    match_end x (take k xs) (no_last x (take k xs) (inner_is_not x xs f inner))
-    ∙ sym (match_end x xs inner)
+    grind (arith, last_is_long, match_end, no_last, inner_is_not)
 reach_match (suc k) (x ∷ xs) (m ∷ ms) e h f s =
-    let inner = last_is_long x xs (omega arith) in
-    match_cons x m (take k xs) ms (no_last x (take k xs) (inner_is_not x xs f inner))
-    ∙ ap (λ b. level_matches x m && b)
-    (reach_match k xs ms (omega arith) h (fit_parts x xs f).after (omega arith))
-    ∙ sym (match_cons x m xs ms inner)
+    grind (arith, reach_match k xs ms, last_is_long, match_cons, no_last, inner_is_not, fit_parts)
 
 reach_matches : (k : ℕ) (ls n : List (List ℕ)) → length ls ≡ suc (suc k)
     → is_hash (level_at ls (suc k)) ≡ true → are_fit ls ≡ true → length n ≤ suc k
@@ -89,21 +75,15 @@ fit_take (suc k) (x ∷ y ∷ xs) f =
       nul = is.nul;
       slash = is.slash;
       level = is.level;
-      hash = either (length (take k (y ∷ xs)) == 0) (not (contains_byte 35 x))
+      hash = or_right (length (take k (y ∷ xs)) == 0) _
           (sym (ap (λ b. b || not (contains_byte 35 x)) (eqb-suc-zero (length xs))) ∙ is.hash);
       after = fit_take k (y ∷ xs) is.after;
     })
-  where
-    either : (a b : Bool) → b ≡ true → (a || b) ≡ true
-    either true b e = refl
-    either false b e = e
 
 short_take : (k : ℕ) (ls : List (List ℕ)) → has_long ls ≡ false → has_long (take k ls) ≡ false
 short_take zero ls f = refl
 short_take (suc k) [] f = refl
-short_take (suc k) (x ∷ xs) f =
-    let parts = or_parts (is_long x) (has_long xs) f in
-    or_from (is_long x) (has_long (take k xs)) parts.0 (short_take k xs parts.1)
+short_take (suc k) (x ∷ xs) f = grind (arith, short_take k xs, or_parts, or_from)
 
 -- what is kept of levels
 pub record IsKept (ls kept : List (List ℕ)) : Type 0 where
@@ -113,29 +93,26 @@ pub record IsKept (ls kept : List (List ℕ)) : Type 0 where
   pub last : length kept ≡ 201 → is_hash (level_at kept 200) ≡ false
 
 pub within_reach_kept : (ls : List (List ℕ)) → are_fit ls ≡ true → IsKept ls (within_reach ls)
-within_reach_kept ls f = at ((length ls == 201) && is_hash (level_at ls 200)) refl
-  where
-    off : (a b : Bool) → (a && b) ≡ false → a ≡ true → b ≡ false
-    off true b e h = e
-    off false b e h = absurd (let k : false ≡ true = h in cc)
-
-    at : (b : Bool) → ((length ls == 201) && is_hash (level_at ls 200)) ≡ b
-        → IsKept ls (cond b (take 200 ls) ls)
-    at false e = record {
+within_reach_kept ls f =
+    cond_both ((length ls == 201) && is_hash (level_at ls 200)) (take 200 ls) ls (IsKept ls)
+    (λ e.
+    let both = and_parts (length ls == 201) _ e in
+    let size = eqb-true (length ls) 201 both.0 in
+    record {
+      same = λ n s. reach_matches 199 ls n size both.1 f s;
+      fit = fit_take 200 ls f;
+      short = λ h. short_take 200 ls h;
+      last = λ h. absurd (omega (arith, length-take 200 ls));
+    })
+    (λ e. record {
       same = λ n s. refl;
       fit = f;
       short = λ h. h;
-      last = λ h. off (length ls == 201) (is_hash (level_at ls 200)) e (eq-eqb (length ls) 201 h);
-    }
-    at true e =
-        let both = and_parts (length ls == 201) (is_hash (level_at ls 200)) e in
-        let size = eqb-true (length ls) 201 both.0 in
-        record {
-          same = λ n s. reach_matches 199 ls n size both.1 f s;
-          fit = fit_take 200 ls f;
-          short = λ h. short_take 200 ls h;
-          last = λ h. absurd (omega (arith, length-take 200 ls));
-        }
+      last = λ h. off (length ls == 201) _ e (eq-eqb (length ls) 201 h);
+    })
+  where
+    off : (a b : Bool) → (a && b) ≡ false → a ≡ true → b ≡ false
+    off a b e h = grind arith
 
 -- a filter that wants more levels than a name has matches none
 too_deep : (k : ℕ) (ls n : List (List ℕ)) → are_fit ls ≡ true → length n ≤ k → k < length ls
@@ -148,11 +125,7 @@ too_deep zero (x ∷ xs) (m ∷ ms) f s more last = absurd (omega arith)
 too_deep (suc k) (x ∷ xs) [] f s more last =
     match_end x xs (last_is_long x xs (omega arith))
 too_deep (suc k) (x ∷ xs) (m ∷ ms) f s more last =
-    match_cons x m xs ms (last_is_long x xs (omega arith))
-    ∙ ap (λ b. level_matches x m && b)
-    (too_deep k xs ms (fit_parts x xs f).after (omega arith) (omega arith)
-    (λ e. last (omega (arith, e))))
-    ∙ and-false (level_matches x m)
+    grind (arith, too_deep k xs ms, match_cons, last_is_long, fit_parts)
 
 pub none_that_deep : (ls kept : List (List ℕ)) → IsKept ls kept → 200 < length kept
     → (n : List ℕ) → is_name n ≡ true → matches ls (levels n) ≡ false
@@ -187,9 +160,7 @@ empty_match ([] ∷ []) e n (m ∷ ms) is some =
 
 pub none_without_text : (ls kept : List (List ℕ)) → IsKept ls kept → length (joined kept) ≡ 0
     → (n : List ℕ) → is_name n ≡ true → matches ls (levels n) ≡ false
-none_without_text ls kept is e n h =
-    sym (is.same (levels n) (name_few n h))
-    ∙ matches_not kept (levels n) (empty_match kept e n (levels n) refl (name_some n h))
+none_without_text ls kept is e n h = grind (arith, name_few, matches_not, empty_match, name_some)
 
 -- ---- the text of levels
 pub levels_of_text : (ls : List (List ℕ)) → are_fit ls ≡ true → 0 < length (joined ls)
@@ -201,34 +172,15 @@ levels_of_text (l ∷ ls) f h = levels-joined l ls (fit_slash (l ∷ ls) f)
 text_is_filter : (ls : List (List ℕ)) → are_fit ls ≡ true → 0 < length (joined ls)
     → length ls ≤ 200 → length (joined ls) ≤ 65535 → is_filter (joined ls) ≡ true
 text_is_filter ls f some few short =
-    let text = joined ls in
-    let are = levels_of_text ls f some in
-    and_from (is_text text && wildcards_fit (levels text)) (nat_le (length (levels text)) 200)
-    (and_from (is_text text) (wildcards_fit (levels text))
-    (and_from (nat_lt 0 (length text) && nat_le (length text) 65535) (not (contains_byte 0 text))
-    (and_from (nat_lt 0 (length text)) (nat_le (length text) 65535)
-    (lt-ltb 0 (length text) some) (le-leb (length text) 65535 short))
-    (not_from_false (contains_byte 0 text) (joined_lacks 0 ls refl (fit_nul ls f))))
-    (ap wildcards_fit are ∙ fit_wildcards ls f))
-    (ap (λ l. nat_le (length l) 200) are ∙ le-leb (length ls) 200 few)
+    grind (arith, levels_of_text, lt-ltb, le-leb, joined_lacks, fit_nul, fit_wildcards)
 
 -- a text that is no filter has a long level
 pub no_filter_is_long : (ls : List (List ℕ)) → are_fit ls ≡ true → 0 < length (joined ls)
     → length ls ≤ 200 → is_filter (joined ls) ≡ false → has_long ls ≡ true
-no_filter_is_long ls f some few bad = at (has_long ls) refl
-  where
-    at : (b : Bool) → has_long ls ≡ b → b ≡ true
-    at true e = refl
-    at false e =
-        let size = joined_short ls e in
-        absurd (let k : false ≡ true =
-        sym bad ∙ text_is_filter ls f some few (omega (arith, size)) in cc)
+no_filter_is_long ls f some few bad = grind (arith, joined_short, text_is_filter)
 
 -- what is long in what is kept is so in all
 pub kept_long : (ls kept : List (List ℕ)) → IsKept ls kept → has_long kept ≡ true
     → has_long ls ≡ true
-kept_long ls kept is h = at (has_long ls) refl
-  where
-    at : (b : Bool) → has_long ls ≡ b → b ≡ true
-    at true e = refl
-    at false e = absurd (let k : false ≡ true = sym (is.short e) ∙ h in cc)
+kept_long ls kept is h = true_from_ne_false _ (λ e.
+    let k : false ≡ true = sym (is.short e) ∙ h in cc)

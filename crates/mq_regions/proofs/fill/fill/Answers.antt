@@ -8,8 +8,8 @@ use Rattle.mq_acl.specs.Access.{begins_with_dollar}
 use Rattle.mq_rename.specs.Lists.{texts}
 use Rattle.mq_rename.proofs.JoinLemmas.{joined, joined_is}
 use Rattle.mq_regions.specs.Filled.{IsFilled, fill_levels, has_level}
-use Rattle.mq_regions.proofs.FillLemmas.{fill_empty, fill_hidden, fill_none, fill_unfit}
-use Rattle.mq_regions.proofs.MadeLemmas.{IsFillable, fill_made, fill_valid}
+use Rattle.mq_regions.proofs.FillLemmas.{fill_empty, fill_hidden, fill_none, fill_unfit, IsFillable}
+use Rattle.mq_regions.proofs.FillLemmas.{fill_made, fill_valid}
 use Rattle.mq_regions.proofs.fill.fill.Goals as goal
 use Rattle.mq_regions.proofs.fill.fill.Goals.{Else-is_empty}
 

@@ -3,7 +3,7 @@ use Rattle.std.proofs.lemmas.Iterator.{YieldsList-from_slice}
 use Rattle.std.proofs.lemmas.Iterator.Search.{any_from_yields_List}
 use Rattle.mq_topic.specs.Levels.{levels}
 use Rattle.mq_rename.specs.Lists.{has_long, is_long}
-use Rattle.mq_regions.proofs.LimitLemmas.{any_level}
+use Rattle.mq_regions.proofs.TextLemmas.{any_level}
 use Rattle.mq_regions.proofs.limit.is_some_long.Goals as goal
 
 pub returns : goal.returns

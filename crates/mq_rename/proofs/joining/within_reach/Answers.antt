@@ -1,6 +1,5 @@
 use Rattle.std.proofs.Common.{◌≡◌, ◌==◌, ◌&&◌, true, List, ℕ, [], length, take, Bor, get_or, arith}
-use Rattle.std.proofs.Common.{ap, sym}
-use Rattle.std.proofs.Common.{◌∙◌}
+use Rattle.std.proofs.Common.{ap, sym, ◌∙◌}
 use Rattle.std.proofs.lemmas.Bool.{and_from, cond-true, eq-eqb}
 use Rattle.std.proofs.lemmas.List.{get_or-map, length-map, take-map}
 use Rattle.mq_topic.specs.Matching.{level_at}

@@ -1,5 +1,5 @@
-use Rattle.std.proofs.Common.{◌≡◌, List, ℕ, Bool, Option, Some, None, inl, inr, ap, sym, ◌∙◌}
-use Rattle.std.proofs.Common.{◌||◌, true, false}
+use Rattle.std.proofs.Common.{◌≡◌, List, ℕ, Bool, Option, Some, None, inl, inr, ap, sym, ◌∙◌, ◌||◌}
+use Rattle.std.proofs.Common.{true, false}
 use Rattle.std.specs.Option.{option_map}
 use Rattle.std.proofs.lemmas.Option.{IfSome_then}
 use Rattle.std.proofs.lemmas.Result.{IfOk-weaker, MatchResult-weaker}
@@ -11,8 +11,7 @@ use Rattle.mq_rename.specs.Meets.{met_levels}
 use Rattle.mq_rename.proofs.MetLemmas.{IsMet, fault_by, met_is_fit, met_is_hidden, met_is_long}
 use Rattle.mq_rename.proofs.MetLemmas.{met_is_same}
 use Rattle.mq_rename.proofs.meeting.meet.Goals as goal
-use Rattle.mq_rename.proofs.meeting.meet.Goals.{After-deref}
-use Rattle.mq_rename.proofs.meeting.meet.Goals.{then-is_hidden-via-then-is_hidden}
+use Rattle.mq_rename.proofs.meeting.meet.Goals.{After-deref, then-is_hidden-via-then-is_hidden}
 use Rattle.mq_rename.proofs.meeting.meet.Goals.{then-is_hidden-via-else-is_hidden+then-is_hidden-2}
 
 -- what the tests and `met_levels` say of the two texts

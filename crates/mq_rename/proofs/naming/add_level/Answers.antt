@@ -1,11 +1,8 @@
 use Rattle.std.proofs.Common.{◌≡◌, ◌++◌, ◌∷◌, ◌-◌, [], List, ℕ, Bor, false, min, length, drop, take}
-use Rattle.std.proofs.Common.{codes}
-use Rattle.std.proofs.Common.{ap, sym, bytes_eq}
+use Rattle.std.proofs.Common.{codes, ap, sym, bytes_eq, ◌∙◌, refl}
 use Rattle.std.proofs.lemmas.Bool.{false_from_ne_true}
 use Rattle.mq_topic.proofs.ByteLemmas.{text_is}
-use Rattle.std.proofs.Common.{◌∙◌, refl}
-use Rattle.std.proofs.lemmas.List.{map-append}
-use Rattle.std.proofs.lemmas.List.{drop_min, drop-map, take_rest}
+use Rattle.std.proofs.lemmas.List.{map-append, drop_min, drop-map, take_rest}
 use Rattle.mq_rename.specs.Lists.{is_hash, is_plus, texts}
 use Rattle.mq_rename.specs.Renames.{becomes}
 use Rattle.mq_rename.proofs.naming.add_level.Goals as goal
