@@ -10,10 +10,7 @@ from .difference_kinds import (
     RETAINED_FOR_GROUP, TESTED_AGAIN, joined, kind, own_will)
 from .held_back import Backlog, Owed
 from .report_line import Line, differ
-from .steps import Copy, Event, Step, copy_of
-
-
-NOBODY: frozenset[str] = frozenset()
+from .steps import NOBODY, Copy, Event, Step, copy_of
 
 
 def is_alike(copy: Copy, other: Copy) -> bool:

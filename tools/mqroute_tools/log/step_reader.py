@@ -130,9 +130,10 @@ def steps(watcher: Watcher, streams: Iterable[BinaryIO]) -> Iterator[Step]:
             found = [e for e in found if e.place < end]
         step.events = found
         step.flying = watcher.flight.flying()
-        receivers = {event.client for event in found}
-        receivers.update(step.flying)
-        step.old_protocol = receivers & watcher.old_protocol
+        if found or step.flying:
+            receivers = {event.client for event in found}
+            receivers.update(step.flying)
+            step.old_protocol = receivers & watcher.old_protocol
     step: Step | None = None
     for place, command in placed_commands(watcher, streams):
         if step is None or step.place != place:
@@ -149,7 +150,8 @@ def steps(watcher: Watcher, streams: Iterable[BinaryIO]) -> Iterator[Step]:
             step.renamed, watcher.renamed = True, False
         if watcher.resumed:
             if command["do"] == "connect":
-                step.shared[watcher.resumed[0]] = watcher.resumed[1]
+                client, filters = watcher.resumed
+                step.shared = {**step.shared, client: filters}
                 watcher.resumed = None
     if step:
         close(step, None)
@@ -183,7 +185,7 @@ def add(step: Step, command: Command, block: Block, name: str) -> None:
             copies.append(((client, message.topic), copy))
         else:
             copies.append((key_of(text, name), read_copy(text)))
-    check(command, block, [key for key, _ in copies], name)
+    check(command, block, [key for key, _ in copies] if copies else (), name)
     for key, copy in copies:
         step.mqroute.copies[key].append(copy)
     if block.refused == "NotAuthorized":

@@ -1,5 +1,6 @@
 """One step of a log: its commands, and what the broker and mqroute did then."""
 from collections import defaultdict
+from collections.abc import Mapping, Set
 from dataclasses import dataclass, field
 from functools import lru_cache
 from typing import NamedTuple
@@ -41,6 +42,12 @@ class Side:
         self.refused: list[Key] = []
 
 
+# Most steps have nothing of these, and so have them in common.
+NOBODY: frozenset[str] = frozenset()
+NO_FILTERS: Mapping[str, list[str]] = {}
+NOT_FLYING: Mapping[str, bool] = {}
+
+
 class Step:
     """The commands of one line of the log, and what the broker did until the next ones."""
     __slots__ = ("place", "commands", "events", "broker", "mqroute", "shared", "old_protocol",
@@ -51,7 +58,7 @@ class Step:
         self.commands: list[Command] = []
         self.events: list[Event] = []
         self.broker, self.mqroute = Side(), Side()
-        self.shared: dict[str, list[str]] = {}  # who resumes: filters of its groups
-        self.old_protocol: set[str] = set()  # receivers that speak MQTT 3
+        self.shared = NO_FILTERS  # who resumes: filters of its groups
+        self.old_protocol: Set[str] = NOBODY  # receivers that speak MQTT 3
         self.renamed = False  # its publish was received under another user name
-        self.flying: dict[str, bool] = {}  # in flight: as many as may be?
+        self.flying = NOT_FLYING  # in flight: as many as may be?
