@@ -10,3 +10,4 @@ pub mod RefillLemmas
 pub mod TextLemmas
 pub mod PieceLemmas
 pub mod LongLemmas
+pub mod FeedLemmas

@@ -5,3 +5,4 @@ pub mod Printed
 pub mod Objects
 pub mod Behind
 pub mod Lines
+pub mod Feeding

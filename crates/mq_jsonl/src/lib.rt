@@ -1,6 +1,6 @@
 //! The lines of a script, and the lines that answer them.
 //!
-//! `split_line` cuts a line off, and `read_line` makes a command of it. `print_answer`,
+//! A `LineFeeder` makes lines of a script, and `read_line` makes a command of one. `print_answer`,
 //! `print_refusal` and `print_line_fault` make the text that answers one; a `Printer` adds the same
 //! text line after line, and uses its objects again.
 #![tactic(auto)]
@@ -9,11 +9,12 @@ mod copies;
 mod fault;
 mod fields;
 mod line_buffer;
+mod line_feeder;
 mod object;
 mod printer;
 mod read;
 
 pub use fault::LineFault;
-pub use line_buffer::{LINE_ROOM, keep_front, split_line};
+pub use line_feeder::LineFeeder;
 pub use printer::{Printer, print_answer, print_line_fault, print_refusal};
 pub use read::{LINE_LIMIT, read_line};

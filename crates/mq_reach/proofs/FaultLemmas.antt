@@ -1,6 +1,6 @@
 -- What is shown of a script that isn't searched to its end.
-use Rattle.std.proofs.Common.{◌≡◌, ℕ, ◌-◌, ◌==◌, ◌&&◌, ◌||◌, Bool, true, false, cond, not, List, []}
-use Rattle.std.proofs.Common.{◌∷◌, ◌++◌, Option, Some, None, length, map, take, refl, sym, ap, subst}
+use Rattle.std.proofs.Common.{◌≡◌, ℕ, ◌==◌, ◌&&◌, ◌||◌, Bool, true, false, cond, not, List, []}
+use Rattle.std.proofs.Common.{◌∷◌, ◌++◌, Option, Some, None, map, refl, sym, ap, subst}
 use Rattle.std.proofs.Common.{◌∙◌, append_assoc, append-nil, inl, inr}
 use Rattle.std.specs.List.{list_all}
 use Rattle.std.proofs.Math.Bool.{or-true}
@@ -14,12 +14,11 @@ use Rattle.mq_world.specs.After.{next}
 use Rattle.mq_world.specs.Lists.{Text}
 use Rattle.mq_world.specs.Sessions.{user_of}
 use Rattle.mq_world.specs.World.{Request, World}
-use Rattle.mq_jsonl.specs.Lines.{all_lines, command_in, kept, last_piece, piece_line, pieces}
-use Rattle.mq_jsonl.specs.Lines.{whole_lines}
+use Rattle.mq_jsonl.specs.Lines.{all_lines, command_in, last_piece, piece_line, whole_lines}
+use Rattle.mq_jsonl.specs.Feeding.{EndsLine, HasNext}
+use Rattle.mq_jsonl.specs.declared.line_feeder.LineFeeder.{LineFeeder}
 use Rattle.mq_jsonl.specs.Reading.{reading}
-use Rattle.mq_jsonl.proofs.LongLemmas.{some_piece}
-use Rattle.mq_jsonl.proofs.PieceLemmas.{last_piece-text, whole_lines-feed, whole_lines-grown}
-use Rattle.mq_jsonl.proofs.PieceLemmas.{whole_lines-text}
+use Rattle.mq_jsonl.proofs.PieceLemmas.{whole_lines-grown}
 use Rattle.mq_reach.specs.Faults.{FailsIn, IsFaultAmong, IsScriptFault, IsSearchFault, StopsWith}
 use Rattle.mq_reach.specs.Faults.{has_long_at, is_long_at, is_short_question}
 use Rattle.mq_reach.specs.Reach.{list_by}
@@ -29,11 +28,12 @@ use Rattle.mq_reach.specs.Subscriptions.{Kept, stays, subscriptions, world_of}
 use Rattle.mq_reach.specs.declared.question.SearchFault.{SearchFault}
 use Rattle.mq_reach.specs.declared.question.SearchFault.TheVariants as search
 use Rattle.mq_reach.specs.declared.reading.Reading.{Reading}
+use Rattle.mq_reach.specs.declared.search.Search.{Search}
 use Rattle.mq_reach.specs.declared.reading.ScriptFault.{ScriptFault}
 use Rattle.mq_reach.specs.declared.reading.ScriptFault.TheVariants as script
 use Rattle.mq_reach.proofs.AmongLemmas.{grown_fault}
 use Rattle.mq_reach.proofs.GrownLemmas.{grown}
-use Rattle.mq_reach.proofs.ScriptLemmas.{kept_line, subscriptions-kept}
+use Rattle.mq_reach.proofs.ScriptLemmas.{subscriptions-kept}
 use Rattle.mq_reach.proofs.SearchLemmas.{says}
 use Rattle.mq_reach.proofs.KeyLemmas.{key_of}
 
@@ -98,28 +98,28 @@ pub FailsIn-memory : (list : AccessList) (r : Reading) (bytes : List ℕ)
 unfolding FailsIn
 FailsIn-memory list r bytes = λ given holds. tt
 
+-- a fault of a line that stands behind those that are searched
+pub next_fault : (list : AccessList) (lines all : List (List ℕ)) (f : LineFeeder) (p : Search)
+    (fault : SearchFault) → HasNext lines all f
+    → ((before : List (List ℕ)) → IsSearched list before p
+    → IsFaultAmong list (subscriptions (before ++ f.line.items ∷ [])) fault)
+    → IsSearched list lines p → IsFaultAmong list (subscriptions all) fault
+next_fault list lines all f p fault has fails is =
+    subst (λ l. IsFaultAmong list (subscriptions l) fault) (sym has.next)
+    (subst (λ l. IsFaultAmong list l fault) (subscriptions-kept lines has.line)
+    (subst (λ l. IsFaultAmong list (subscriptions (lines ++ l ∷ [])) fault) has.at_hand
+    (fails lines is)))
+
 -- a fault of the line that ends here
-pub FailsIn-line : (list : AccessList) (r : Reading) (rest line : List ℕ) (n : ℕ)
-    (fault : SearchFault) → kept ≡ n → pieces rest ≡ rest ∷ []
-    → line ≡ r.line.items ++ take (n - length r.line.items) rest
+pub FailsIn-line : (list : AccessList) (r : Reading) (f : LineFeeder) (bytes : List ℕ)
+    (fault : SearchFault) → EndsLine r.feeder f bytes
     → ((before : List (List ℕ)) → IsSearched list before r.search
-    → IsFaultAmong list (subscriptions (before ++ line ∷ [])) fault)
-    → FailsIn list r (rest ++ 10 ∷ []) fault
-unfolding FailsIn
-FailsIn-line list r rest line n fault is one grown fails = λ given holds.
-    let ls : List (List ℕ) = whole_lines given in
-    let piece : List ℕ = last_piece given ++ rest in
-    let front : line ≡ take kept piece =
-    kept_line n r.line.items line (last_piece given) rest is holds.line grown in
-    let all : whole_lines (given ++ (rest ++ 10 ∷ [])) ≡ ls ++ piece ∷ [] =
-    ap whole_lines (sym (append_assoc given rest (10 ∷ [])))
-    ∙ whole_lines-feed (given ++ rest)
-    ∙ ap (λ l. l ++ last_piece (given ++ rest) ∷ []) (whole_lines-text given rest one)
-    ∙ ap (λ l. ls ++ l ∷ []) (last_piece-text given rest one) in
-    subst (λ l. IsFaultAmong list (subscriptions l) fault) (sym all)
-    (subst (λ l. IsFaultAmong list l fault) (subscriptions-kept ls piece)
-    (subst (λ l. IsFaultAmong list (subscriptions (ls ++ l ∷ [])) fault) front
-    (fails ls holds.searched)))
+    → IsFaultAmong list (subscriptions (before ++ f.line.items ∷ [])) fault)
+    → FailsIn list r bytes fault
+unfolding FailsIn EndsLine
+FailsIn-line list r f bytes fault ends fails = λ given holds.
+    next_fault list (whole_lines given) (whole_lines (given ++ bytes)) f r.search fault
+    (ends given holds.line).0 fails holds.searched
 
 -- a fault in bytes is one in more of them, also where others were taken before
 pub FailsIn-more : (list : AccessList) (p q : Reading) (taken bytes others all : List ℕ)
@@ -135,21 +135,6 @@ FailsIn-more list p q taken bytes others all fault takes same fails = λ given h
     subst (λ l. IsFaultAmong list (subscriptions l) fault) (sym is)
     (more_fault list (whole_lines ((given ++ taken) ++ bytes)) grown.0 fault
     (fails (given ++ taken) (takes given holds)))
-
--- a fault of the last line
-pub last_fault : (list : AccessList) (given : List ℕ) (r : Reading) (fault : SearchFault)
-    → HoldsScript list given r → (r.line.items ≡ [] → ⊥)
-    → ((before : List (List ℕ)) → IsSearched list before r.search
-    → IsFaultAmong list (subscriptions (before ++ r.line.items ∷ [])) fault)
-    → IsFaultAmong list (subscriptions (all_lines given)) fault
-last_fault list given r fault holds some fails =
-    let ls : List (List ℕ) = whole_lines given in
-    let all : all_lines given ≡ ls ++ last_piece given ∷ [] =
-    ap (λ l. ls ++ l) (some_piece (last_piece given) r.line.items holds.line some) in
-    subst (λ l. IsFaultAmong list (subscriptions l) fault) (sym all)
-    (subst (λ l. IsFaultAmong list l fault) (subscriptions-kept ls (last_piece given))
-    (subst (λ l. IsFaultAmong list (subscriptions (ls ++ l ∷ [])) fault) holds.line
-    (fails ls holds.searched)))
 
 -- ## Of a script
 

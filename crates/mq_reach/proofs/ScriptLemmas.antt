@@ -1,20 +1,18 @@
 -- A script that is read piece by piece.
-use Rattle.std.proofs.Common.{◌≡◌, ◌<◌, ◌+◌, ◌-◌, ℕ, Option, Some, None, IfSome, List, [], ◌∷◌}
+use Rattle.std.proofs.Common.{◌≡◌, ◌<◌, ◌+◌, ℕ, Option, Some, None, IfSome, List, [], ◌∷◌}
 use Rattle.std.proofs.Common.{◌++◌, length, map, take, sym, ap, subst, ◌∙◌, append_assoc, append-nil}
 use Rattle.std.proofs.Common.{arith, length-append}
 use Rattle.std.specs.Prelude.{slice_get}
 use Rattle.std.specs.Io.KnownBytes.{Consumes}
 use Rattle.std.specs.List.{cons_option}
 use Rattle.std.specs.Option.{option_to_list}
-use Rattle.std.proofs.lemmas.List.{take_all}
 use Rattle.mq_acl.specs.AccessLists.{AccessList}
 use Rattle.mq_world.specs.After.{replay}
 use Rattle.mq_world.specs.World.{Request, empty_world}
-use Rattle.mq_jsonl.specs.Lines.{all_lines, command_in, kept, last_piece, piece_line, pieces}
-use Rattle.mq_jsonl.specs.Lines.{whole_lines}
-use Rattle.mq_jsonl.proofs.LongLemmas.{kept_more, no_piece, reading-kept, some_piece}
-use Rattle.mq_jsonl.proofs.PieceLemmas.{whole_lines-feed, last_piece-feed, whole_lines-text}
-use Rattle.mq_jsonl.proofs.PieceLemmas.{last_piece-text}
+use Rattle.mq_jsonl.specs.Lines.{command_in, kept, whole_lines}
+use Rattle.mq_jsonl.specs.Feeding.{EndsLine, EndsNone, HasNext, Holds, open_line}
+use Rattle.mq_jsonl.specs.declared.line_feeder.LineFeeder.{LineFeeder}
+use Rattle.mq_jsonl.proofs.LongLemmas.{reading-kept}
 use Rattle.mq_reach.specs.Script.{HoldsScript, TakesBytes}
 use Rattle.mq_reach.specs.Search.{AreTracked, IsSearched, IsWorldOf}
 use Rattle.mq_reach.specs.Subscriptions.{commands_of, fault_at, faulty_lines, subscriptions}
@@ -37,6 +35,15 @@ unfolding TakesBytes
 TakesBytes-then list p q r xs ys s t = λ given holds.
     subst (λ (l : List ℕ). HoldsScript list l r) (append_assoc given xs ys)
     (t (given ++ xs) (s given holds))
+
+-- a reading whose feeder only counts more bytes is as it was
+pub TakesBytes-fed : (list : AccessList) (p q : Reading) (f : LineFeeder) (xs : List ℕ)
+    → open_line f ≡ open_line q.feeder → TakesBytes list p q xs
+    → TakesBytes list p (record q { feeder = f }) xs
+unfolding TakesBytes
+TakesBytes-fed list p q f xs same s = λ given holds.
+    let now = s given holds in
+    record { searched = now.searched; line = same ∙ now.line }
 
 -- ## A long line is known by its front
 
@@ -83,89 +90,41 @@ IsSearched-kept list lines p s is = record {
   };
 }
 
+-- a line that stands behind those that are searched is searched if what is kept of it is
+pub IsSearched-next : (list : AccessList) (lines all : List (List ℕ)) (f : LineFeeder)
+    (p q : Search) → HasNext lines all f
+    → ((before : List (List ℕ)) → IsSearched list before p
+    → IsSearched list (before ++ f.line.items ∷ []) q)
+    → IsSearched list lines p → IsSearched list all q
+IsSearched-next list lines all f p q has step is =
+    subst (λ l. IsSearched list l q) (sym has.next)
+    (IsSearched-kept list lines has.line q
+    (subst (λ l. IsSearched list (lines ++ l ∷ []) q) has.at_hand (step lines is)))
+
 -- ## Bytes that are taken
 
--- what is kept of a line, and of what goes on with it
-pub kept_line : (n : ℕ) (line more p xs : List ℕ) → kept ≡ n → line ≡ take kept p
-    → more ≡ line ++ take (n - length line) xs
-    → more ≡ take kept (p ++ xs)
-kept_line n line more p xs is e f =
-    f ∙ subst (λ (k : ℕ). line ++ take (k - length line) xs ≡ take kept (p ++ xs)) is
-    (kept_more line p xs e)
+-- to take bytes that end no line, it is enough to keep what is kept of them
+pub TakesBytes-text : (list : AccessList) (p q : Reading) (xs : List ℕ) → q.search ≡ p.search
+    → EndsNone p.feeder q.feeder xs → TakesBytes list p q xs
+unfolding TakesBytes EndsNone
+TakesBytes-text list p q xs search none = λ given holds.
+    let more = none given holds.line in
+    record { searched = rw (more.0, search) holds.searched; line = more.1 }
 
--- to take bytes without a line feed, it is enough to keep what there is room for
-pub TakesBytes-text : (list : AccessList) (p q : Reading) (xs : List ℕ) (n : ℕ) → kept ≡ n
-    → pieces xs ≡ xs ∷ []
-    → q.search ≡ p.search → q.line.items ≡ p.line.items ++ take (n - length p.line.items) xs
+-- the line that they end is searched
+pub TakesBytes-line : (list : AccessList) (p q : Reading) (xs : List ℕ)
+    → EndsLine p.feeder q.feeder xs
+    → ((before : List (List ℕ)) → IsSearched list before p.search
+    → IsSearched list (before ++ q.feeder.line.items ∷ []) q.search)
     → TakesBytes list p q xs
-unfolding TakesBytes
-TakesBytes-text list p q xs n is one search line = λ given holds. record {
-  searched = rw (whole_lines-text given xs one, search) holds.searched;
-  line =
-      kept_line n p.line.items q.line.items (last_piece given) xs is holds.line line
-      ∙ ap (take kept) (sym (last_piece-text given xs one));
-}
-
--- the line that is kept, with the rest of it, is searched, and then none is kept
-pub record EndsLine (list : AccessList) (p q : Reading) (rest line : List ℕ) (n : ℕ) :
-    Type 0 where
-  pub grown : line ≡ p.line.items ++ take (n - length p.line.items) rest
-  pub searched : (before : List (List ℕ)) → IsSearched list before p.search
-      → IsSearched list (before ++ line ∷ []) q.search
-  pub none : q.line.items ≡ []
-
--- a line feed ends the line that is kept
-pub TakesBytes-line : (list : AccessList) (p q : Reading) (rest line : List ℕ) (n : ℕ) → kept ≡ n
-    → pieces rest ≡ rest ∷ [] → EndsLine list p q rest line n
-    → TakesBytes list p q (rest ++ 10 ∷ [])
-unfolding TakesBytes
-TakesBytes-line list p q rest line n is one ends = λ given holds.
-    let ls : List (List ℕ) = whole_lines given in
-    let piece : List ℕ = last_piece given ++ rest in
-    let front : line ≡ take kept piece =
-    kept_line n p.line.items line (last_piece given) rest is holds.line ends.grown in
-    let same : given ++ (rest ++ 10 ∷ []) ≡ (given ++ rest) ++ 10 ∷ [] =
-    sym (append_assoc given rest (10 ∷ [])) in
-    let all : whole_lines ((given ++ rest) ++ 10 ∷ []) ≡ ls ++ piece ∷ [] =
-    whole_lines-feed (given ++ rest) ∙ ap (λ l. l ++ last_piece (given ++ rest) ∷ [])
-    (whole_lines-text given rest one)
-    ∙ ap (λ l. ls ++ l ∷ []) (last_piece-text given rest one) in
-    let searched : IsSearched list (ls ++ piece ∷ []) q.search =
-    IsSearched-kept list ls piece q.search
-    (subst (λ l. IsSearched list (ls ++ l ∷ []) q.search) front (ends.searched ls holds.searched))
-    in
+unfolding TakesBytes EndsLine
+TakesBytes-line list p q xs ends step = λ given holds.
+    let more = ends given holds.line in
     record {
-      searched = subst (λ l. IsSearched list (whole_lines l) q.search) (sym same)
-          (subst (λ l. IsSearched list l q.search) (sym all) searched);
-      line =
-          ends.none ∙ sym (take_all kept [] (omega arith))
-          ∙ ap (take kept) (sym (ap last_piece same ∙ last_piece-feed (given ++ rest)));
+      searched = IsSearched-next list (whole_lines given) (whole_lines (given ++ xs)) q.feeder
+          p.search q.search more.0 step holds.searched;
+      line = more.1;
     }
-
--- ## The last piece
-
--- where nothing is kept behind the last line feed, all lines are searched already
-pub whole-empty : (list : AccessList) (script : List ℕ) (r : Reading) → HoldsScript list script r
-    → r.line.items ≡ []
-    → IsSearched list (all_lines script) r.search
-whole-empty list script r holds none =
-    let same : all_lines script ≡ whole_lines script =
-    ap (λ l. whole_lines script ++ piece_line l)
-    (no_piece (last_piece script) (sym holds.line ∙ none)) ∙ append-nil (whole_lines script) in
-    rw same holds.searched
-
--- where the last piece isn't empty, all lines are searched once it is searched as a line
-pub whole-piece : (list : AccessList) (script : List ℕ) (r : Reading) (s : Search)
-    → HoldsScript list script r → (r.line.items ≡ [] → ⊥)
-    → ((before : List (List ℕ)) → IsSearched list before r.search
-    → IsSearched list (before ++ r.line.items ∷ []) s)
-    → IsSearched list (all_lines script) s
-whole-piece list script r s holds some step =
-    let ls : List (List ℕ) = whole_lines script in
-    let all : all_lines script ≡ ls ++ last_piece script ∷ [] =
-    ap (λ l. ls ++ l) (some_piece (last_piece script) r.line.items holds.line some) in
-    rw all (IsSearched-kept list ls (last_piece script) s
-    (subst (λ l. IsSearched list (ls ++ l ∷ []) s) holds.line (step ls holds.searched)))
 
 -- ## The reader
 
@@ -178,9 +137,6 @@ too_long (Some xs) None limit given c over = absurd c
 too_long (Some xs) (Some ys) limit given c over = rw (c, length-append) (omega arith)
 
 -- nothing is read yet
-pub HoldsScript-start : (list : AccessList) (r : Reading) → IsSearched list [] r.search
-    → r.line.items ≡ [] → HoldsScript list [] r
-HoldsScript-start list r searched none = record {
-  searched = searched;
-  line = none ∙ sym (take_all kept [] (omega arith));
-}
+pub HoldsScript-start : (list : AccessList) (s : Search) (f : LineFeeder) → IsSearched list [] s
+    → Holds [] f → HoldsScript list [] (record { search = s; feeder = f })
+HoldsScript-start list s f searched none = record { searched = searched; line = none }

@@ -1,7 +1,8 @@
 -- A script that is read.
-use Rattle.std.specs.Prelude.{◌≡◌, ℕ, List, ◌++◌, take}
+use Rattle.std.specs.Prelude.{ℕ, List, ◌++◌}
 use Rattle.mq_acl.specs.AccessLists.{AccessList}
-use Rattle.mq_jsonl.specs.Lines.{kept, last_piece, whole_lines}
+use Rattle.mq_jsonl.specs.Lines.{whole_lines}
+use Rattle.mq_jsonl.specs.Feeding.{Holds}
 use Rattle.mq_reach.specs.Search.{IsSearched}
 use Rattle.mq_reach.specs.declared.reading.Reading.{Reading}
 
@@ -12,7 +13,7 @@ script_limit = 4294967296
 -- the whole lines of what was given are searched, and what follows them is kept
 pub record HoldsScript (list : AccessList) (given : List ℕ) (r : Reading) : Type 0 where
   pub searched : IsSearched list (whole_lines given) r.search
-  pub line : r.line.items ≡ take kept (last_piece given)
+  pub line : Holds given r.feeder
 
 -- more bytes are given, and the lines that they end are searched
 unfoldable pub TakesBytes : AccessList → (old new : Reading) → List ℕ → Type 0

@@ -1,9 +1,10 @@
 //! The lines of a script, read in little memory.
-ghost use Rattle.std.specs.Prelude.{◌≡◌, ◌+◌, ◌<◌, ◌≤◌, ◌^◌, ◌++◌, ◌∷◌, [], ℕ, List, IfOk, IfErr};
+ghost use Rattle.std.specs.Prelude.{◌≡◌, ◌+◌, ◌<◌, ◌≤◌, ◌^◌, [], ℕ, List, IfOk, IfErr};
 ghost use Rattle.std.specs.Prelude.{OnOk, length};
 ghost use Rattle.std.specs.Io.KnownBytes.{Consumes, IsAtEnd};
 ghost use Rattle.mq_acl.specs.Views.{row_views};
-ghost use Rattle.mq_jsonl.specs.Lines.{all_lines, pieces};
+ghost use Rattle.mq_jsonl.specs.Lines.{all_lines};
+ghost use Rattle.mq_jsonl.specs.Feeding.{open_line};
 ghost use Rattle.mq_reach.specs.Reach.{list_by};
 ghost use Rattle.mq_reach.specs.Search.{IsFound};
 ghost use Rattle.mq_reach.specs.Faults.{FailsIn, IsFaultAmong, IsScriptFault, StopsWith};
@@ -14,7 +15,7 @@ use crate::question::{SearchFault, list_of};
 use crate::reach::Reach;
 use crate::search::{Findings, Search};
 use mq_acl::{Row, Rules};
-use mq_jsonl::{LINE_ROOM, keep_front, split_line};
+use mq_jsonl::LineFeeder;
 use std::alloc::Global;
 use std::io::{self, Read};
 
@@ -50,67 +51,45 @@ impl From<SearchFault> for ScriptFault {
 #[derive(Drop)]
 struct Reading {
     search: Search,
-    /// What is kept of the line that has not ended yet.
-    line: Vec<u8>,
-}
-
-// Takes the rest of a line that a line feed ends, and searches the line.
-fn end_line(
-    reading: &mut Reading,
-    alloc: Global,
-    list: &Reach,
-    rest: &[u8],
-) -> Result<(), SearchFault>
-    requires lines { reading.old.search.counts.lines + 1 < 2 ^ 64 }
-    requires rest { pieces rest.now ≡ rest.now ∷ [] }
-    ensures takes { OnOk result (TakesBytes list.now reading.old reading.new
-        (rest.now ++ 10 ∷ [])) }
-    ensures lines { OnOk result (reading.new.search.counts.lines
-        ≡ reading.old.search.counts.lines + 1) }
-    ensures line { OnOk result (reading.new.line.items ≡ []) }
-    ensures err { IfErr result (FailsIn list.now reading.old (rest.now ++ 10 ∷ [])) }
-{
-    keep_front(&mut reading.line, rest, LINE_ROOM)?;
-    reading
-        .search
-        .take_line(alloc, list, reading.line.as_slice())?;
-    reading.line.clear();
-    Ok(())
+    feeder: LineFeeder,
 }
 
 // Takes bytes of the script, and searches the lines that they end.
 fn take(reading: &mut Reading, alloc: Global, list: &Reach, bytes: &[u8]) -> Result<(), SearchFault>
-    requires { reading.old.search.counts.lines + length reading.old.line.items
+    requires { reading.old.search.counts.lines + length (open_line reading.old.feeder)
         + length bytes.now < 2 ^ 64 }
     ensures takes { OnOk result (TakesBytes list.now reading.old reading.new
         bytes.now) }
-    ensures lines { OnOk result (reading.new.search.counts.lines + length reading.new.line.items
-        ≤ reading.old.search.counts.lines + length reading.old.line.items + length bytes.now) }
+    ensures lines { OnOk result (reading.new.search.counts.lines
+        + length (open_line reading.new.feeder) ≤ reading.old.search.counts.lines
+        + length (open_line reading.old.feeder) + length bytes.now) }
+    ensures room { OnOk result (reading.new.feeder.room ≡ reading.old.feeder.room) }
     ensures err { IfErr result (FailsIn list.now reading.old bytes.now) }
 {
     let mut rest = bytes;
-    'lines: while let Some((line, others)) = split_line(rest) {
-        end_line(reading, alloc, list, line)?;
+    'lines: while let Some(others) = reading.feeder.take_line(rest)? {
+        reading
+            .search
+            .take_line(alloc, list, reading.feeder.line())?;
         rest = others;
     }
-    keep_front(&mut reading.line, rest, LINE_ROOM)?;
     Ok(())
 }
 
 // Searches a last piece that isn't empty.
 fn finish(mut reading: Reading, alloc: Global, list: &Reach) -> Result<Findings, SearchFault>
-    requires { reading.search.counts.lines + length reading.line.items < 2 ^ 64 }
+    requires { reading.search.counts.lines + length (open_line reading.feeder) < 2 ^ 64 }
     ensures ok { (script : List ℕ) → HoldsScript list.now script reading
         → IfOk result (IsFound list.now (all_lines script)) }
     ensures err { (script : List ℕ) → HoldsScript list.now script reading
         → IfErr result (IsFaultAmong list.now (subscriptions (all_lines script))) }
 {
-    if reading.line.is_empty() {
+    if !reading.feeder.has_last_piece() {
         return Ok(reading.search.findings(alloc)?);
     }
     reading
         .search
-        .take_line(alloc, list, reading.line.as_slice())?;
+        .take_line(alloc, list, reading.feeder.line())?;
     Ok(reading.search.findings(alloc)?)
 }
 
@@ -124,17 +103,17 @@ fn read_lines<R: Read>(
 ) -> Result<(), ScriptFault>
     requires piece { 0 < length piece.old }
     requires lines { reading.old.search.counts.lines ≡ 0 }
-    requires line { reading.old.line.items ≡ [] }
+    requires line { open_line reading.old.feeder ≡ [] }
+    requires room { reading.old.feeder.room ≡ script_limit }
     ensures ok { OnOk result ((script : List ℕ)
         × Consumes (R.remaining reader.old) (R.remaining reader.new) script
         × IsAtEnd (R.remaining reader.new)
         × TakesBytes list.now reading.old reading.new script) }
     ensures lines { OnOk result (reading.new.search.counts.lines
-        + length reading.new.line.items ≤ script_limit) }
+        + length (open_line reading.new.feeder) ≤ script_limit) }
     ensures err { IfErr result (StopsWith list.now reading.old
         (R.remaining reader.old) (R.remaining reader.new)) }
 {
-    let mut total: u64 = 0;
     'reads: loop {
         let n = match reader.read(piece) {
             Ok(n) => n,
@@ -143,11 +122,10 @@ fn read_lines<R: Read>(
         if n == 0 {
             return Ok(());
         }
-        if n as u64 > SCRIPT_LIMIT - total {
+        if !reading.feeder.admit(n) {
             return Err(ScriptFault::TooLong);
         }
         take(reading, alloc, list, &piece[..n])?;
-        total += n as u64;
     }
 }
 
@@ -174,7 +152,7 @@ pub fn find_unreached<R: Read>(
     };
     let mut reading = Reading {
         search: Search::new(alloc),
-        line: Vec::new(alloc),
+        feeder: LineFeeder::new(alloc, SCRIPT_LIMIT),
     };
     read_lines(&mut reading, alloc, &list, reader, piece.as_mut_slice())?;
     Ok(finish(reading, alloc, &list)?)

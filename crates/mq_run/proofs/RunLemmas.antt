@@ -1,5 +1,5 @@
 -- A run, a line at a time.
-use Rattle.std.proofs.Common.{◌≡◌, ◌≤◌, ◌-◌, ℕ, zero, suc, ◌+◌, List, [], ◌∷◌, ◌++◌, Bool, cond}
+use Rattle.std.proofs.Common.{◌≡◌, ◌≤◌, ◌<◌, ℕ, zero, suc, ◌+◌, List, [], ◌∷◌, ◌++◌, Bool, cond}
 use Rattle.std.proofs.Common.{length, take, drop, take-append-drop, inl, inr, Err, Option, refl}
 use Rattle.std.proofs.Common.{sym, ap, subst, ◌∙◌, arith, append_assoc, append-nil, length-append}
 use Rattle.std.proofs.lemmas.List.{take_all, take-append-le}
@@ -13,16 +13,15 @@ use Rattle.mq_run.specs.declared.outcome.RunFault.TheVariants as fault
 use Rattle.mq_run.specs.declared.progress.Progress.{Progress}
 use Rattle.mq_run.specs.Output.{world_after, text_of, is_refused, text_from, refused_from}
 use Rattle.mq_run.specs.Output.{whole_output}
-use Rattle.mq_jsonl.specs.Lines.{all_lines, kept, last_piece, piece_line, pieces, whole_lines}
+use Rattle.mq_jsonl.specs.Lines.{all_lines, whole_lines}
+use Rattle.mq_jsonl.specs.Feeding.{EndsNone, HasNext, open_line}
 use Rattle.mq_run.specs.Ending.{Seen, IsPrefix, AppendsSome, WritesLines, write_failures, Ending}
-use Rattle.mq_run.specs.Running.{world_then, Answered, Unanswered, SoFar, Stopped, Finished}
+use Rattle.mq_run.specs.Running.{world_then, Answered, Unanswered, AreAnswered, SoFar, Stopped}
 use Rattle.mq_run.specs.Running.{StoppedLast}
-use Rattle.mq_jsonl.proofs.PieceLemmas.{whole_lines-feed, last_piece-feed, whole_lines-text}
-use Rattle.mq_jsonl.proofs.PieceLemmas.{last_piece-text, whole_lines-grown}
+use Rattle.mq_jsonl.proofs.PieceLemmas.{whole_lines-grown}
 use Rattle.mq_run.proofs.OutputLemmas.{world_after-push, text_from-append, text_from-push}
 use Rattle.mq_run.proofs.OutputLemmas.{refused_from-push, text_of-kept, is_refused-kept}
 use Rattle.mq_run.proofs.OutputLemmas.{world_then-kept}
-use Rattle.mq_jsonl.proofs.LongLemmas.{kept_more, no_piece, some_piece}
 
 -- ## What comes later adds text
 
@@ -58,186 +57,144 @@ Stopped-grown a b w g ys fault.TooMuch h = h
 Stopped-grown a b w g ys fault.Write h = AppendsSome-grown a b w g ys h
 Stopped-grown a b w g ys fault.Memory h = WritesLines-grown a b w g ys h
 
--- ## A text without a line feed
+-- ## Bytes that end no line
 
--- a text without a line feed has just joined the line, of which so many bytes are kept
-pub record HasJoined (xs : List ℕ) (n : ℕ) (p q : Progress) : Type 0 where
-  pub room : kept ≡ n
-  pub one : pieces xs ≡ xs ∷ []
+-- a run is fed, and nothing else changes
+pub record IsFed (p q : Progress) : Type 0 where
   pub router : q.router ≡ p.router
   pub summary : q.summary ≡ p.summary
-  pub line : q.line.items ≡ p.line.items ++ take (n - length p.line.items) xs
 
--- where a text joins the line that is kept, no line ends, and nothing is written
-pub SoFar-text : (w : World) (g xs : List ℕ) (n : ℕ) (p q : Progress) (a b : Option (List ℕ))
-    → HasJoined xs n p q → SoFar w g p a b → SoFar w (g ++ xs) q a b
-SoFar-text w g xs n p q a b joined so_far =
-    let same = whole_lines-text g xs joined.one in
-    let text : p.line.items ++ take (n - length p.line.items) xs ≡ take kept (last_piece g ++ xs) =
-    subst (λ (k : ℕ). p.line.items ++ take (k - length p.line.items) xs
-    ≡ take kept (last_piece g ++ xs)) joined.room
-    (kept_more p.line.items (last_piece g) xs so_far.line) in
+pub AreAnswered-fed : (w : World) (lines : List (List ℕ)) (p q : Progress) (a b : Option (List ℕ))
+    → IsFed p q → AreAnswered w lines p a b → AreAnswered w lines q a b
+AreAnswered-fed w lines p q a b fed so_far = record {
+  stands = rw fed.router so_far.stands;
+  lines = rw fed.summary so_far.lines;
+  refused = rw fed.summary so_far.refused;
+  written = so_far.written;
+}
+
+-- where what is kept stays the same, so does how far a run is
+pub SoFar-kept : (w : World) (g : List ℕ) (p q : Progress) (a b : Option (List ℕ)) → IsFed p q
+    → open_line q.feeder ≡ open_line p.feeder → SoFar w g p a b → SoFar w g q a b
+SoFar-kept w g p q a b fed same so_far = record {
+  answered = AreAnswered-fed w (whole_lines g) p q a b fed so_far.answered;
+  line = same ∙ so_far.line;
+}
+
+-- where bytes end no line, nothing is written
+pub SoFar-text : (w : World) (g xs : List ℕ) (p q : Progress) (a b : Option (List ℕ)) → IsFed p q
+    → EndsNone p.feeder q.feeder xs → SoFar w g p a b → SoFar w (g ++ xs) q a b
+unfolding EndsNone
+SoFar-text w g xs p q a b fed none so_far =
+    let more = none g so_far.line in
     record {
-      stands = rw (same, joined.router) so_far.stands;
-      lines = rw (same, joined.summary) so_far.lines;
-      refused = rw (same, joined.summary) so_far.refused;
-      line = joined.line ∙ text ∙ ap (take kept) (sym (last_piece-text g xs joined.one));
-      written = rw same so_far.written;
+      answered = subst (λ lines. AreAnswered w lines q a b) (sym more.0)
+          (AreAnswered-fed w (whole_lines g) p q a b fed so_far.answered);
+      line = more.1;
     }
 
--- ## A line feed
+-- ## A line
 
 Appends-end : (a b c : Option (List ℕ)) (xs : List ℕ) → Appends a b xs → Appends b c []
     → Appends a c xs
 Appends-end a b c xs p q = subst (Appends a c) (append-nil xs) (Appends-trans a b c xs [] p q)
 
--- the text of the line that is kept
-line_so_far : (w v : World) (g : List ℕ) (p : Progress) (a b : Option (List ℕ)) → SoFar w g p a b
-    → text_of (p.summary.lines + 1) v p.line.items
-    ≡ text_of (length (whole_lines g) + 1) v (last_piece g)
-line_so_far w v g p a b so_far =
-    ap (λ (k : ℕ). text_of (k + 1) v p.line.items) so_far.lines
-    ∙ ap (text_of (length (whole_lines g) + 1) v) so_far.line
-    ∙ text_of-kept (length (whole_lines g) + 1) v (last_piece g)
+-- the text of the line that is at hand
+next_text : (w : World) (lines all : List (List ℕ)) (p : Progress) (a b : Option (List ℕ))
+    → (has : HasNext lines all p.feeder) → AreAnswered w lines p a b
+    → text_of (p.summary.lines + 1) (world_after w lines) p.feeder.line.items
+    ≡ text_of (length lines + 1) (world_after w lines) has.line
+next_text w lines all p a b has so_far =
+    let v = world_after w lines in
+    ap (λ (k : ℕ). text_of (k + 1) v p.feeder.line.items) so_far.lines
+    ∙ ap (text_of (length lines + 1) v) has.at_hand
+    ∙ text_of-kept (length lines + 1) v has.line
 
 -- whether it was refused
-line_refused : (w v : World) (g : List ℕ) (p : Progress) (a b : Option (List ℕ)) → SoFar w g p a b
-    → is_refused v p.line.items ≡ is_refused v (last_piece g)
-line_refused w v g p a b so_far = ap (is_refused v) so_far.line ∙ is_refused-kept v (last_piece g)
-
-refused_so_far : (w : World) (g : List ℕ) (p q : Progress) (a b c d : Option (List ℕ))
-    → SoFar w g p a b → Answered (world_after w (whole_lines g)) p q c d
-    → q.summary.refused ≡ refused_from w [] (whole_lines g ++ last_piece g ∷ [])
-refused_so_far w g p q a b c d so_far done =
-    let v = world_after w (whole_lines g) in
-    let count : ℕ = cond (is_refused v p.line.items) 1 0 in
-    let same : count ≡ cond (is_refused v (last_piece g)) 1 0 =
-    ap (λ (t : Bool). cond {A = ℕ} t 1 0) (line_refused w v g p a b so_far) in
-    let e = refused_from-push w (whole_lines g) (last_piece g) in
+next_refused : (w : World) (lines all : List (List ℕ)) (p q : Progress) (a b c d : Option (List ℕ))
+    → (has : HasNext lines all p.feeder) → AreAnswered w lines p a b
+    → Answered (world_after w lines) p q c d
+    → q.summary.refused ≡ refused_from w [] (lines ++ has.line ∷ [])
+next_refused w lines all p q a b c d has so_far done =
+    let v = world_after w lines in
+    let count : ℕ = cond (is_refused v p.feeder.line.items) 1 0 in
+    let same : count ≡ cond (is_refused v has.line) 1 0 =
+    ap (λ (t : Bool). cond {A = ℕ} t 1 0)
+    (ap (is_refused v) has.at_hand ∙ is_refused-kept v has.line) in
+    let e = refused_from-push w lines has.line in
     let f = so_far.refused in
     let h = done.refused in
     omega arith
 
-written_so_far : (w : World) (g : List ℕ) (p q : Progress) (a b c : Option (List ℕ))
-    → SoFar w g p a b
-    → Answered (world_after w (whole_lines g)) p q b c
-    → Appends a c (text_from w [] (whole_lines g ++ last_piece g ∷ []))
-written_so_far w g p q a b c so_far done =
-    let v = world_after w (whole_lines g) in
-    subst (Appends a c) (sym (text_from-push w (whole_lines g) (last_piece g)))
-    (Appends-trans a b c (whole_output w g) (text_of (length (whole_lines g) + 1) v (last_piece g))
-    so_far.written (subst (Appends b c) (line_so_far w v g p a b so_far) done.written))
+-- once it is answered, so are the lines up to it
+pub AreAnswered-next : (w : World) (lines all : List (List ℕ)) (p q : Progress)
+    (a b c : Option (List ℕ)) → HasNext lines all p.feeder → AreAnswered w lines p a b
+    → Answered (world_after w lines) p q b c → q.summary.lines ≡ p.summary.lines + 1
+    → AreAnswered w all q a c
+AreAnswered-next w lines all p q a b c has so_far done number =
+    let v = world_after w lines in
+    subst (λ l. AreAnswered w l q a c) (sym has.next) (record {
+      stands = rw (world_after-push w lines has.line) (subst (StandsFor q.router)
+          (ap (world_then v) has.at_hand ∙ world_then-kept v has.line) done.stands);
+      lines = let n = so_far.lines in rw length-append (omega arith);
+      refused = next_refused w lines all p q a b b c has so_far done;
+      written = subst (Appends a c) (sym (text_from-push w lines has.line))
+          (Appends-trans a b c (text_from w [] lines) (text_of (length lines + 1) v has.line)
+          so_far.written (subst (Appends b c) (next_text w lines all p a b has so_far)
+          done.written));
+    })
 
--- once its line is answered, a line feed adds a whole line and nothing is kept
-pub SoFar-feed : (w : World) (g : List ℕ) (p q : Progress) (a b c : Option (List ℕ))
-    → SoFar w g p a b
-    → Answered (world_after w (whole_lines g)) p q b c
-    → q.summary.lines ≡ p.summary.lines + 1 → q.line.items ≡ [] → SoFar w (g ++ 10 ∷ []) q a c
-SoFar-feed w g p q a b c so_far done number empty =
-    let ls = whole_lines g in
-    let v = world_after w ls in
-    record {
-      stands = rw (whole_lines-feed g, world_after-push w ls (last_piece g))
-          (subst (StandsFor q.router) (ap (world_then v) so_far.line
-          ∙ world_then-kept v (last_piece g)) done.stands);
-      lines = let n = so_far.lines in rw (whole_lines-feed g, length-append) (omega arith);
-      refused = rw (whole_lines-feed g) (refused_so_far w g p q a b b c so_far done);
-      line = empty ∙ sym (ap (take kept) (last_piece-feed g) ∙ take_all kept [] (omega arith));
-      written = rw (whole_lines-feed g) (written_so_far w g p q a b c so_far done);
-    }
-
--- a part of the text of the line that is kept
-part_so_far : (w : World) (g : List ℕ) (p : Progress) (a b c : Option (List ℕ)) → SoFar w g p a b
-    → AppendsSome b c (text_of (p.summary.lines + 1) (world_after w (whole_lines g)) p.line.items)
-    → AppendsSome a c (text_from w [] (whole_lines g ++ last_piece g ∷ []))
-part_so_far w g p a b c so_far h =
-    let v = world_after w (whole_lines g) in
-    let part : text_of (length (whole_lines g) + 1) v (last_piece g) ≡ h.0 ++ h.2.0 =
-    sym (line_so_far w v g p a b so_far) ∙ h.2.1 in (
-      whole_output w g ++ h.0,
-      Appends-trans a b c (whole_output w g) h.0 so_far.written h.1,
+-- a part of its text was written
+next_part : (w : World) (lines all : List (List ℕ)) (p : Progress) (a b c : Option (List ℕ))
+    → HasNext lines all p.feeder → AreAnswered w lines p a b
+    → AppendsSome b c (text_of (p.summary.lines + 1) (world_after w lines) p.feeder.line.items)
+    → AppendsSome a c (text_from w [] all)
+next_part w lines all p a b c has so_far h =
+    let v = world_after w lines in
+    let before : List ℕ = text_from w [] lines in
+    let part : text_of (length lines + 1) v has.line ≡ h.0 ++ h.2.0 =
+    sym (next_text w lines all p a b has so_far) ∙ h.2.1 in (
+      before ++ h.0,
+      Appends-trans a b c before h.0 so_far.written h.1,
       (
         h.2.0,
-        text_from-push w (whole_lines g) (last_piece g) ∙ ap (λ l. whole_output w g ++ l) part
-            ∙ sym (append_assoc (whole_output w g) h.0 h.2.0),
+        ap (text_from w []) has.next ∙ text_from-push w lines has.line
+            ∙ ap (λ l. before ++ l) part ∙ sym (append_assoc before h.0 h.2.0),
       ),
     )
 
 -- nothing more was written
-pub Stopped-memory : (w : World) (g : List ℕ) (p : Progress) (a b : Option (List ℕ))
-    → SoFar w g p a b → WritesLines w g a b
-Stopped-memory w g p a b so_far = (
-  length (whole_lines g),
-  omega arith,
-  rw (take_all (length (whole_lines g)) (whole_lines g) (omega arith)) so_far.written,
-)
-
-memory_so_far : (w : World) (g : List ℕ) (p : Progress) (a b c : Option (List ℕ)) → SoFar w g p a b
-    → Appends b c [] → WritesLines w g a c
-memory_so_far w g p a b c so_far h = (
+pub Stopped-memory : (w : World) (g : List ℕ) (p : Progress) (a b c : Option (List ℕ))
+    → AreAnswered w (whole_lines g) p a b → Appends b c [] → WritesLines w g a c
+Stopped-memory w g p a b c so_far h = (
   length (whole_lines g),
   omega arith,
   rw (take_all (length (whole_lines g)) (whole_lines g) (omega arith))
       (Appends-end a b c (whole_output w g) so_far.written h),
 )
 
--- where the line that a line feed ends isn't answered, the run stops among what was given
-pub Stopped-feed : (w : World) (g : List ℕ) (p : Progress) (a b c : Option (List ℕ)) (e : RunFault)
-    → SoFar w g p a b
-    → Unanswered (world_after w (whole_lines g)) p e b c → Stopped w (g ++ 10 ∷ []) e a c
-Stopped-feed w g p a b c fault.Read so_far h = h
-Stopped-feed w g p a b c fault.TooMuch so_far h = h
-Stopped-feed w g p a b c fault.Write so_far h = rw (whole_lines-feed g)
-    (part_so_far w g p a b c so_far h)
-Stopped-feed w g p a b c fault.Memory so_far h =
-    WritesLines-grown a c w g (10 ∷ []) (memory_so_far w g p a b c so_far h)
+-- where the line that some bytes end isn't answered, the run stops among what was given
+pub Stopped-line : (w : World) (g xs : List ℕ) (p : Progress) (a b c : Option (List ℕ))
+    (e : RunFault) → HasNext (whole_lines g) (whole_lines (g ++ xs)) p.feeder
+    → AreAnswered w (whole_lines g) p a b → Unanswered (world_after w (whole_lines g)) p e b c
+    → Stopped w (g ++ xs) e a c
+Stopped-line w g xs p a b c fault.Read has so_far h = h
+Stopped-line w g xs p a b c fault.TooMuch has so_far h = h
+Stopped-line w g xs p a b c fault.Write has so_far h =
+    next_part w (whole_lines g) (whole_lines (g ++ xs)) p a b c has so_far h
+Stopped-line w g xs p a b c fault.Memory has so_far h =
+    WritesLines-grown a c w g xs (Stopped-memory w g p a b c so_far h)
 
--- ## The end of the script
-
-Finished-empty_at : (w : World) (g : List ℕ) (p : Progress) (a b : Option (List ℕ))
-    → SoFar w g p a b
-    → last_piece g ≡ [] → Finished w g p a b
-Finished-empty_at w g p a b so_far none =
-    let same : all_lines g ≡ whole_lines g = ap (λ l. whole_lines g ++ piece_line l) none
-    ∙ append-nil (whole_lines g) in
-    record {
-      summary = record { lines = rw same so_far.lines; refused = rw same so_far.refused };
-      written = rw same so_far.written;
-    }
-
--- where nothing is kept at the end of a script, all its lines are answered
-pub Finished-empty : (w : World) (g : List ℕ) (p : Progress) (a b : Option (List ℕ))
-    → SoFar w g p a b → p.line.items ≡ [] → Finished w g p a b
-Finished-empty w g p a b so_far h = Finished-empty_at w g p a b so_far
-    (no_piece (last_piece g) (sym so_far.line ∙ h))
-
--- where a last piece is kept, its answer completes the script's
-pub Finished-piece : (w : World) (g : List ℕ) (p q : Progress) (a b c : Option (List ℕ))
-    → SoFar w g p a b → (p.line.items ≡ [] → ⊥)
-    → Answered (world_after w (whole_lines g)) p q b c → q.summary.lines ≡ p.summary.lines + 1
-    → Finished w g q a c
-Finished-piece w g p q a b c so_far some done number =
-    let all : all_lines g ≡ whole_lines g ++ last_piece g ∷ [] =
-    ap (λ l. whole_lines g ++ l) (some_piece (last_piece g) p.line.items so_far.line some) in
-    record {
-      summary = record {
-        lines = let n = so_far.lines in rw (all, length-append) (omega arith);
-        refused = rw all (refused_so_far w g p q a b b c so_far done);
-      };
-      written = rw all (written_so_far w g p q a b c so_far done);
-    }
-
--- where a last piece is kept and isn't answered, the run stops at it
+-- where a last piece isn't answered, the run stops at it
 pub StoppedLast-piece : (w : World) (g : List ℕ) (p : Progress) (a b c : Option (List ℕ))
-    (e : RunFault) → SoFar w g p a b → (p.line.items ≡ [] → ⊥)
-    → Unanswered (world_after w (whole_lines g)) p e b c → StoppedLast w g e a c
-StoppedLast-piece w g p a b c fault.Read so_far some h = h
-StoppedLast-piece w g p a b c fault.TooMuch so_far some h = h
-StoppedLast-piece w g p a b c fault.Write so_far some h =
-    let all : all_lines g ≡ whole_lines g ++ last_piece g ∷ [] =
-    ap (λ l. whole_lines g ++ l) (some_piece (last_piece g) p.line.items so_far.line some) in
-    rw all (part_so_far w g p a b c so_far h)
-StoppedLast-piece w g p a b c fault.Memory so_far some h = memory_so_far w g p a b c so_far h
+    (e : RunFault) → HasNext (whole_lines g) (all_lines g) p.feeder
+    → AreAnswered w (whole_lines g) p a b → Unanswered (world_after w (whole_lines g)) p e b c
+    → StoppedLast w g e a c
+StoppedLast-piece w g p a b c fault.Read has so_far h = h
+StoppedLast-piece w g p a b c fault.TooMuch has so_far h = h
+StoppedLast-piece w g p a b c fault.Write has so_far h =
+    next_part w (whole_lines g) (all_lines g) p a b c has so_far h
+StoppedLast-piece w g p a b c fault.Memory has so_far h = Stopped-memory w g p a b c so_far h
 
 -- ## The end of a run
 
@@ -292,6 +249,15 @@ take_within : (buf : List ℕ) (room n : ℕ) → room ≤ n
 take_within buf room n h = sym (take-append-drop room (take n buf))
     ∙ ap (λ l. l ++ drop room (take n buf)) (take-take room n buf h)
 
+-- where more comes than has room, the room is within it
+pub room_within : (r room n : ℕ) → r ≡ room → room < n → r ≤ n
+room_within r room n is less = omega arith
+
+-- and what was given is over the limit
+pub limit_over : (g xs : List ℕ) (n room limit : ℕ) → length g + room ≡ limit → length xs ≡ n
+    → room < n → limit < length (g ++ xs)
+limit_over g xs n room limit so_far count less = rw length-append (omega arith)
+
 -- what is within the limit is what was given before and as much of the buffer as has room
 pub over_take : (g buf : List ℕ) (limit room n : ℕ) → length g + room ≡ limit → room ≤ n
     → take limit (g ++ take n buf) ≡ g ++ take room buf
@@ -307,5 +273,3 @@ Stopped-front a b w g buf room n e h s =
     ∙ ap (λ l. g ++ l) (sym (take_within buf room n h)) in
     subst (λ (l : List ℕ). Stopped w l e a b) same
     (Stopped-grown a b w (g ++ take room buf) (drop room (take n buf)) e s)
-
--- ## The start

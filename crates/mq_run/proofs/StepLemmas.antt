@@ -1,8 +1,9 @@
 -- What the calls of a run make of it.
-use Rattle.std.proofs.Common.{◌≡◌, ℕ, ◌+◌, List, [], ◌∷◌, ◌++◌, Bool, cond}
-use Rattle.std.proofs.Common.{Option, Result, Ok, Err, ap, ◌∙◌, subst, append_assoc, append-nil}
+use Rattle.std.proofs.Common.{◌≡◌, ℕ, ◌+◌, List, [], ◌++◌, Bool, cond}
+use Rattle.std.proofs.Common.{Option, Result, Ok, Err, ap, ◌∙◌, subst, sym, append_assoc}
+use Rattle.std.proofs.Common.{append-nil}
 use Rattle.std.specs.Prelude.{OnOk, OnErr, IfErr}
-use Rattle.std.proofs.KnownBytes.{Appends-kept}
+use Rattle.std.proofs.KnownBytes.{Appends-kept, Appends-nil}
 use Rattle.std.specs.Io.KnownBytes.{Appends, Keeps}
 use Rattle.mq_world.specs.World.{World}
 use Rattle.mq_router.specs.StandsFor.{StandsFor}
@@ -11,13 +12,15 @@ use Rattle.mq_run.specs.declared.outcome.RunFault.TheVariants as fault
 use Rattle.mq_run.specs.declared.progress.Progress.{Progress}
 use Rattle.mq_run.specs.Output.{world_after}
 use Rattle.mq_run.specs.Ending.{AppendsSome}
-use Rattle.mq_run.specs.Running.{IsSoFar, SoFar, Stopped, Answers, AnswersLine, StopsAtLine}
+use Rattle.mq_run.specs.Running.{AreAnswered, IsSoFar, SoFar, Stopped, Answers, AnswersLine}
+use Rattle.mq_run.specs.Running.{StopsAtLine}
 use Rattle.mq_run.specs.Running.{TakesBytes, StopsAmong, Takes, EndsLines, StopsLast, Ends}
-use Rattle.mq_jsonl.specs.Lines.{whole_lines}
-use Rattle.mq_run.proofs.RunLemmas.{HasJoined, SoFar-text, SoFar-feed, Stopped-feed}
-use Rattle.mq_run.proofs.RunLemmas.{Stopped-grown, Stopped-memory, WritesLines-grown}
-use Rattle.mq_run.proofs.RunLemmas.{Finished-empty, Finished-piece, StoppedLast-piece}
-use Rattle.mq_run.proofs.RunLemmas.{AppendsSome-all}
+use Rattle.mq_jsonl.specs.Lines.{all_lines, whole_lines}
+use Rattle.mq_jsonl.specs.Feeding.{EndsLine, EndsNone, HasNext, Holds, open_line}
+use Rattle.mq_run.proofs.RunLemmas.{AreAnswered-fed, AreAnswered-next, IsFed, SoFar-kept}
+use Rattle.mq_run.proofs.RunLemmas.{SoFar-text, Stopped-grown}
+use Rattle.mq_run.proofs.RunLemmas.{Stopped-line, Stopped-memory, StoppedLast-piece}
+use Rattle.mq_run.proofs.RunLemmas.{AppendsSome-all, WritesLines-grown}
 
 -- what holds whatever a call answers holds where it answers Ok
 pub at_ok : {T E : Type 0} (result : Result T E) (P : Type 0) → P → OnOk result P
@@ -31,6 +34,13 @@ pub TakesBytes-none : (p : Progress) (a : Option (List ℕ)) → TakesBytes p p 
 unfolding TakesBytes
 TakesBytes-none p a = λ w given start so_far. rw append-nil so_far
 
+-- a run whose feeder only counts more bytes is as it was
+TakesBytes-fed : (p q r : Progress) (xs : List ℕ) (a b : Option (List ℕ)) → IsFed q r
+    → open_line r.feeder ≡ open_line q.feeder → TakesBytes p q xs a b → TakesBytes p r xs a b
+unfolding TakesBytes
+TakesBytes-fed p q r xs a b fed same s = λ w given start so_far.
+    SoFar-kept w (given ++ xs) q r start b fed same (s w given start so_far)
+
 -- bytes that are taken in two parts are taken
 pub TakesBytes-then : (p q r : Progress) (xs ys : List ℕ) (a b c : Option (List ℕ))
     → TakesBytes p q xs a b → TakesBytes q r ys b c → TakesBytes p r (xs ++ ys) a c
@@ -39,25 +49,39 @@ TakesBytes-then p q r xs ys a b c s t = λ w given start so_far.
     subst (λ (l : List ℕ). SoFar w l r start c) (append_assoc given xs ys)
     (t w (given ++ xs) start (s w given start so_far))
 
--- bytes without a line feed are taken where they just join the line, as far as it is kept
-pub TakesBytes-text : (p q : Progress) (xs : List ℕ) (n : ℕ) (a : Option (List ℕ))
-    → HasJoined xs n p q → TakesBytes p q xs a a
-unfolding TakesBytes
-TakesBytes-text p q xs n a joined = λ w given start so_far.
-    SoFar-text w given xs n p q start a joined so_far
+-- so are they where the second part is counted in between
+pub TakesBytes-next : (p q r m : Progress) (xs ys : List ℕ) (a b c : Option (List ℕ))
+    → TakesBytes r m ys b c → IsFed q r → open_line r.feeder ≡ open_line q.feeder
+    → TakesBytes p q xs a b → TakesBytes p m (xs ++ ys) a c
+TakesBytes-next p q r m xs ys a b c t fed same s =
+    TakesBytes-then p r m xs ys a b c (TakesBytes-fed p q r xs a b fed same s) t
 
--- a flush after them writes nothing
+-- bytes that end no line are taken where they are kept
+pub TakesBytes-text : (p q : Progress) (xs : List ℕ) (a : Option (List ℕ)) → IsFed p q
+    → EndsNone p.feeder q.feeder xs → TakesBytes p q xs a a
+unfolding TakesBytes
+TakesBytes-text p q xs a fed none = λ w given start so_far.
+    SoFar-text w given xs p q start a fed none so_far
+
+-- a flush after lines writes nothing
+AreAnswered-flushed : (w : World) (lines : List (List ℕ)) (p : Progress) (a b c : Option (List ℕ))
+    → AreAnswered w lines p a b → Keeps b c → AreAnswered w lines p a c
+AreAnswered-flushed w lines p a b c so_far keeps = record {
+  stands = so_far.stands;
+  lines = so_far.lines;
+  refused = so_far.refused;
+  written = Appends-kept a b c _ so_far.written keeps;
+}
+
+-- nor does one after bytes
 pub TakesBytes-kept : (p q : Progress) (xs : List ℕ) (a b c : Option (List ℕ))
     → TakesBytes p q xs a b → Keeps b c → TakesBytes p q xs a c
 unfolding TakesBytes
 TakesBytes-kept p q xs a b c s keeps = λ w given start so_far.
     let now = s w given start so_far in
     record {
-      stands = now.stands;
-      lines = now.lines;
-      refused = now.refused;
+      answered = AreAnswered-flushed w (whole_lines (given ++ xs)) q start b c now.answered keeps;
       line = now.line;
-      written = Appends-kept start b c _ now.written keeps;
     }
 
 -- ## A run that stops among them
@@ -69,6 +93,13 @@ unfolding TakesBytes StopsAmong
 StopsAmong-then p q xs ys e a b c s t = λ w given start so_far.
     subst (λ (l : List ℕ). Stopped w l e start c) (append_assoc given xs ys)
     (t w (given ++ xs) start (s w given start so_far))
+
+-- also where those are counted in between
+pub StopsAmong-next : (p q r : Progress) (xs ys : List ℕ) (e : RunFault) (a b c : Option (List ℕ))
+    → StopsAmong r ys e b c → IsFed q r → open_line r.feeder ≡ open_line q.feeder
+    → TakesBytes p q xs a b → StopsAmong p (xs ++ ys) e a c
+StopsAmong-next p q r xs ys e a b c t fed same s =
+    StopsAmong-then p r xs ys e a b c (TakesBytes-fed p q r xs a b fed same s) t
 
 -- a run that stops among some bytes stops among them and any that follow
 pub StopsAmong-grown : (p : Progress) (xs ys : List ℕ) (e : RunFault) (a b : Option (List ℕ))
@@ -82,8 +113,9 @@ StopsAmong-grown p xs ys e a b s = λ w given start so_far.
 pub StopsAmong-memory : (p : Progress) (xs : List ℕ) (a : Option (List ℕ))
     → StopsAmong p xs fault.Memory a a
 unfolding StopsAmong
-StopsAmong-memory p xs a = λ w given start so_far. WritesLines-grown start a w given xs
-    (Stopped-memory w given p start a so_far)
+StopsAmong-memory p xs a = λ w given start so_far.
+    WritesLines-grown start a w given xs
+    (Stopped-memory w given p start a a so_far.answered (Appends-nil a))
 
 -- ## A line
 
@@ -98,7 +130,7 @@ pub record IsWritten {T : Type 0} (result : Result T RunFault) (text : List ℕ)
 pub Answers-written : {T : Type 0} (result : Result T RunFault) (p q : Progress) (refused : Bool)
     (text : List ℕ) (a b : Option (List ℕ))
     → ((w : World) → StandsFor p.router w
-    → IsSoFar (p.summary.lines + 1) w p.line.items refused q.router [] text)
+    → IsSoFar (p.summary.lines + 1) w p.feeder.line.items refused q.router [] text)
     → q.summary.refused ≡ p.summary.refused + cond refused 1 0
     → IsWritten result text a b → Answers p q result a b
 unfolding AnswersLine StopsAtLine
@@ -127,38 +159,51 @@ pub Takes-then : {T : Type 0} (result : Result T RunFault) (p q r : Progress) (x
 Takes-then (Ok x) p q r xs ys a b c s t = TakesBytes-then p q r xs ys a b c s t
 Takes-then (Err e) p q r xs ys a b c s t = StopsAmong-then p q xs ys e a b c s t
 
--- a line feed ends the line that is kept
-pub Takes-feed : {T : Type 0} (result : Result T RunFault) (p q : Progress) (a b : Option (List ℕ))
-    → Answers p q result a b
-    → OnOk result (q.summary.lines ≡ p.summary.lines + 1) → OnOk result (q.line.items ≡ [])
-    → Takes p q (10 ∷ []) result a b
-unfolding TakesBytes StopsAmong AnswersLine StopsAtLine
-Takes-feed (Ok x) p q a b done number empty = λ w given start so_far.
-    SoFar-feed w given p q start a b so_far (done (world_after w (whole_lines given)) so_far.stands)
-    number empty
-Takes-feed (Err e) p q a b done number empty = λ w given start so_far.
-    Stopped-feed w given p start a b e so_far (done (world_after w
-    (whole_lines given)) so_far.stands)
+-- where bytes end a line, its answer follows, or the run stops among them
+pub Takes-line : {T : Type 0} (result : Result T RunFault) (p m q : Progress) (xs : List ℕ)
+    (a b : Option (List ℕ)) → IsFed p m → EndsLine p.feeder m.feeder xs → Answers m q result a b
+    → OnOk result (q.summary.lines ≡ m.summary.lines + 1) → q.feeder ≡ m.feeder
+    → Takes p q xs result a b
+unfolding TakesBytes StopsAmong AnswersLine StopsAtLine EndsLine
+Takes-line (Ok x) p m q xs a b fed ends done number same = λ w given start so_far.
+    let lines = whole_lines given in
+    let ended = ends given so_far.line in
+    let before = AreAnswered-fed w lines p m start a fed so_far.answered in
+    record {
+      answered = AreAnswered-next w lines (whole_lines (given ++ xs)) m q start a b ended.0
+          before (done (world_after w lines) before.stands) number;
+      line = ap open_line same ∙ ended.1;
+    }
+Takes-line (Err e) p m q xs a b fed ends done number same = λ w given start so_far.
+    let lines = whole_lines given in
+    let before = AreAnswered-fed w lines p m start a fed so_far.answered in
+    Stopped-line w given xs m start a b e (ends given so_far.line).0 before
+    (done (world_after w lines) before.stands)
 
 -- ## The last piece
 
--- where nothing is kept, the end of the script changes nothing
-pub EndsLines-empty : (p : Progress) (a : Option (List ℕ)) → p.line.items ≡ [] → EndsLines p p a a
+-- where none is kept, the end of the script changes nothing
+pub EndsLines-none : (p : Progress) (a : Option (List ℕ))
+    → ((given : List ℕ) → Holds given p.feeder → all_lines given ≡ whole_lines given)
+    → EndsLines p p a a
 unfolding EndsLines
-EndsLines-empty p a none = λ w given start so_far. Finished-empty w given p start a so_far none
+EndsLines-none p a none = λ w given start so_far.
+    subst (λ lines. AreAnswered w lines p start a) (sym (none given so_far.line)) so_far.answered
 
--- where a last piece is kept, its answer ends the script, or the run stops at it
+-- where one is kept, its answer ends the script, or the run stops at it
 pub Ends-piece : {T : Type 0} (result : Result T RunFault) (p q : Progress) (a b : Option (List ℕ))
-    → (p.line.items ≡ [] → ⊥)
+    → ((given : List ℕ) → Holds given p.feeder
+    → HasNext (whole_lines given) (all_lines given) p.feeder)
     → Answers p q result a b → OnOk result (q.summary.lines ≡ p.summary.lines + 1)
     → Ends p q result a b
 unfolding EndsLines StopsLast AnswersLine StopsAtLine
-Ends-piece (Ok x) p q a b some done number = λ w given start so_far.
-    Finished-piece w given p q start a b so_far some
-    (done (world_after w (whole_lines given)) so_far.stands) number
-Ends-piece (Err e) p q a b some done number = λ w given start so_far.
-    StoppedLast-piece w given p start a b e so_far some
-    (done (world_after w (whole_lines given)) so_far.stands)
+Ends-piece (Ok x) p q a b last done number = λ w given start so_far.
+    AreAnswered-next w (whole_lines given) (all_lines given) p q start a b
+    (last given so_far.line) so_far.answered
+    (done (world_after w (whole_lines given)) so_far.answered.stands) number
+Ends-piece (Err e) p q a b last done number = λ w given start so_far.
+    StoppedLast-piece w given p start a b e (last given so_far.line) so_far.answered
+    (done (world_after w (whole_lines given)) so_far.answered.stands)
 
 -- a flush after it writes nothing
 pub ends_flushed : {T : Type 0} (result : Result T RunFault) (p q : Progress)
@@ -166,8 +211,7 @@ pub ends_flushed : {T : Type 0} (result : Result T RunFault) (p q : Progress)
     → IfErr result (λ e. e ≡ fault.Write) → Ends p q result a c
 unfolding EndsLines StopsLast
 ends_flushed (Ok x) p q a b c done keeps kind = λ w given start so_far.
-    let all = done w given start so_far in
-    record { summary = all.summary; written = Appends-kept start b c _ all.written keeps }
+    AreAnswered-flushed w (all_lines given) q start b c (done w given start so_far) keeps
 ends_flushed (Err fault.Write) p q a b c done keeps kind = λ w given start so_far.
     let all = done w given start so_far in
     AppendsSome-all start c _ (Appends-kept start b c _ all.written keeps)

@@ -1,5 +1,5 @@
 -- A run on its way: what is answered so far, and what is kept of the line that has not ended.
-use Rattle.std.specs.Prelude.{◌≡◌, ◌≤◌, ℕ, ◌+◌, List, [], ◌++◌, length, take, if◌then◌else◌, Bool}
+use Rattle.std.specs.Prelude.{◌≡◌, ◌≤◌, ℕ, ◌+◌, List, [], ◌++◌, length, if◌then◌else◌, Bool}
 use Rattle.std.specs.Prelude.{Option, Some, None, is_some, Result, MatchResult}
 use Rattle.std.specs.Io.KnownBytes.{Appends, IsAtEnd}
 use Rattle.mq_world.specs.World.{World, Request}
@@ -11,8 +11,9 @@ use Rattle.mq_run.specs.declared.outcome.RunFault.TheVariants as fault
 use Rattle.mq_run.specs.declared.progress.Progress.{Progress}
 use Rattle.mq_jsonl.specs.Reading.{reading}
 use Rattle.mq_run.specs.Output.{output, whole_output, world_after, command_text, text_of}
-use Rattle.mq_run.specs.Output.{is_refused, refused_from, Summarizes}
-use Rattle.mq_jsonl.specs.Lines.{command_in, kept, last_piece, whole_lines}
+use Rattle.mq_run.specs.Output.{text_of_lines, is_refused, refused_from}
+use Rattle.mq_jsonl.specs.Lines.{all_lines, command_in, whole_lines}
+use Rattle.mq_jsonl.specs.Feeding.{Holds}
 use Rattle.mq_run.specs.Ending.{AppendsSome, WritesLines}
 
 abbrev pub next_or : World → Option Request → World
@@ -37,29 +38,34 @@ pub record IsSoFar (k : ℕ) (w : World) (line : List ℕ) (was_refused : Bool) 
   pub refused : was_refused ≡ is_refused w line
   pub stands : StandsFor router (world_then w line)
 
--- the line that was kept is answered
+-- the line that was at hand is answered
 pub record Answered (w : World) (old new : Progress) (before after : Option (List ℕ)) : Type 0 where
-  pub stands : StandsFor new.router (world_then w old.line.items)
+  pub stands : StandsFor new.router (world_then w old.feeder.line.items)
   pub refused : new.summary.refused ≡ old.summary.refused
-      + (if is_refused w old.line.items then 1 else 0)
-  pub written : Appends before after (text_of (old.summary.lines + 1) w old.line.items)
+      + (if is_refused w old.feeder.line.items then 1 else 0)
+  pub written : Appends before after (text_of (old.summary.lines + 1) w old.feeder.line.items)
 
 -- it isn't
 abbrev pub Unanswered : World → Progress → RunFault → (before after : Option (List ℕ)) → Type 0
 Unanswered w old fault.Read before after = ⊥
 Unanswered w old fault.TooMuch before after = ⊥
 Unanswered w old fault.Write before after =
-    AppendsSome before after (text_of (old.summary.lines + 1) w old.line.items)
+    AppendsSome before after (text_of (old.summary.lines + 1) w old.feeder.line.items)
 Unanswered w old fault.Memory before after = Appends before after []
 
--- the whole lines of what was given are answered, and what follows them is kept
+-- these lines are answered
+pub record AreAnswered (w : World) (done : List (List ℕ)) (p : Progress)
+    (before after : Option (List ℕ)) : Type 0 where
+  pub stands : StandsFor p.router (world_after w done)
+  pub lines : p.summary.lines ≡ length done
+  pub refused : p.summary.refused ≡ refused_from w [] done
+  pub written : Appends before after (text_of_lines w done)
+
+-- the whole lines of what was given are, and what follows them is kept
 pub record SoFar (w : World) (given : List ℕ) (p : Progress) (before after : Option (List ℕ)) :
     Type 0 where
-  pub stands : StandsFor p.router (world_after w (whole_lines given))
-  pub lines : p.summary.lines ≡ length (whole_lines given)
-  pub refused : p.summary.refused ≡ refused_from w [] (whole_lines given)
-  pub line : p.line.items ≡ take kept (last_piece given)
-  pub written : Appends before after (whole_output w given)
+  pub answered : AreAnswered w (whole_lines given) p before after
+  pub line : Holds given p.feeder
 
 -- a run stopped among what was given
 abbrev pub Stopped : World → (given : List ℕ) → RunFault → (before after : Option (List ℕ)) → Type 0
@@ -67,12 +73,6 @@ Stopped w given fault.Read before after = ⊥
 Stopped w given fault.TooMuch before after = ⊥
 Stopped w given fault.Write before after = AppendsSome before after (whole_output w given)
 Stopped w given fault.Memory before after = WritesLines w given before after
-
--- all lines are answered
-pub record Finished (w : World) (given : List ℕ) (p : Progress) (before after : Option (List ℕ)) :
-    Type 0 where
-  pub summary : Summarizes w given p.summary
-  pub written : Appends before after (output w given)
 
 -- a run stopped at the last piece
 abbrev pub StoppedLast : World → (given : List ℕ) → RunFault → (before after : Option (List ℕ))
@@ -84,7 +84,7 @@ StoppedLast w given fault.Memory before after = WritesLines w given before after
 
 -- ## What a call makes of a run, and of what its writer had taken
 
--- the line that is kept is answered
+-- the line that is at hand is answered
 unfoldable pub AnswersLine : (old new : Progress) (before after : Option (List ℕ)) → Type 0
 AnswersLine old new before after = (w : World) → StandsFor old.router w
     → Answered w old new before after
@@ -119,7 +119,7 @@ Takes old new bytes result before after =
 -- no more bytes come, and a last piece is answered
 unfoldable pub EndsLines : (old new : Progress) (before after : Option (List ℕ)) → Type 0
 EndsLines old new before after = (w : World) (given : List ℕ) (start : Option (List ℕ))
-    → SoFar w given old start before → Finished w given new start after
+    → SoFar w given old start before → AreAnswered w (all_lines given) new start after
 
 -- or the run stops there
 unfoldable pub StopsLast : Progress → RunFault → (before after : Option (List ℕ)) → Type 0

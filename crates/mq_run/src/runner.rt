@@ -4,6 +4,7 @@ ghost use Rattle.std.specs.Prelude.{OnOk, IfErr, IsTrue, false, length};
 ghost use Rattle.std.specs.Io.KnownBytes.{Consumes, Keeps};
 ghost use Rattle.mq_world.specs.World.{World};
 ghost use Rattle.mq_router.specs.StandsFor.{StandsFor};
+ghost use Rattle.mq_jsonl.specs.Feeding.{open_line};
 ghost use Rattle.mq_run.specs.Ending.{AnswersWhole, EndsOver, failures_of, watch, script_limit};
 ghost use Rattle.mq_run.specs.Running.{SoFar, TakesAll};
 
@@ -61,7 +62,8 @@ fn read_lines<R: Source, W: Sink>(
 ) -> Result<(), RunFault>
     requires piece { 0 < length piece.old }
     requires lines { progress.old.summary.lines ≡ 0 }
-    requires line { progress.old.line.items ≡ [] }
+    requires line { open_line progress.old.feeder ≡ [] }
+    requires room { progress.old.feeder.room ≡ options.limit }
     ensures ok { OnOk result ((given : List ℕ)
         × Consumes (R.to_come reader.old) (R.to_come reader.new) given
         × TakesAll options.limit progress.old progress.new given (R.to_come reader.new)
@@ -72,12 +74,11 @@ fn read_lines<R: Source, W: Sink>(
         → IfErr result (λ e.
         EndsOver options.limit w (Err e) (watch R.to_come R.failures reader.old reader.new)
         (watch W.taken W.failures writer.old writer.new)) }
-    ensures lines { OnOk result
-        (progress.new.summary.lines + length progress.new.line.items ≤ options.limit) }
+    ensures lines { OnOk result (progress.new.summary.lines
+        + length (open_line progress.new.feeder) ≤ options.limit) }
     ensures unbuffered { IsTrue options.unbuffered → R.failures reader.new ≢ R.failures reader.old
         → W.flushed writer.new ≡ W.taken writer.new }
 {
-    let mut total: u64 = 0;
     'reads: loop {
         before_read(writer, options.unbuffered)?;
         let n = match reader.read(piece) {
@@ -87,13 +88,12 @@ fn read_lines<R: Source, W: Sink>(
         if n == 0 {
             return Ok(());
         }
-        let room = options.limit - total;
-        if n as u64 > room {
-            progress.take(&piece[..room as usize], writer)?;
+        if !progress.feeder.admit(n) {
+            let room = progress.feeder.room() as usize;
+            progress.take(&piece[..room], writer)?;
             return Err(RunFault::TooMuch);
         }
         progress.take(&piece[..n], writer)?;
-        total += n as u64;
     }
 }
 
@@ -106,7 +106,8 @@ fn answer_all<R: Source, W: Sink>(
     writer: &mut W,
 ) -> Result<Summary, RunFault>
     requires lines { progress.old.summary.lines ≡ 0 }
-    requires line { progress.old.line.items ≡ [] }
+    requires line { open_line progress.old.feeder ≡ [] }
+    requires room { progress.old.feeder.room ≡ options.limit }
     ensures ending { (w : World) → SoFar w [] progress.old (W.taken writer.old) (W.taken writer.old)
         → EndsOver options.limit w result (watch R.to_come R.failures reader.old reader.new)
         (watch W.taken W.failures writer.old writer.new) }
@@ -152,7 +153,7 @@ pub fn run_with<R: Source, W: Sink>(
     ensures unbuffered { IsTrue options.unbuffered → R.failures reader.new ≢ R.failures reader.old
         → W.flushed writer.new ≡ W.taken writer.new }
 {
-    let mut progress = Progress::new(alloc, router);
+    let mut progress = Progress::new(alloc, router, options.limit);
     answer_all(alloc, &mut progress, options, reader, writer)
 }
 

@@ -1,10 +1,14 @@
 //! A script that is read line by line.
 use crate::traffic::Traffic;
+use mq_jsonl::LineFeeder;
 use std::alloc::{AllocError, Global};
-use std::io::{self, BufRead, BufReader, ErrorKind, Read};
+use std::io::{self, ErrorKind, Read};
 
 /// How many bytes a script may have, as many as of a run.
 const SCRIPT_LIMIT: u64 = 4_294_967_296;
+
+/// How many bytes are asked for at a time.
+const PIECE: usize = 65_536;
 
 /// Why a script isn't read to its end.
 #[derive(Drop)]
@@ -37,27 +41,63 @@ impl From<io::Error> for TrafficFault {
     }
 }
 
-fn without_line_feed(line: &[u8]) -> &[u8] {
-    line.strip_suffix(b"\n").unwrap_or(line)
+// Takes bytes of the script, and the lines that they end.
+fn take(
+    traffic: &mut Traffic,
+    alloc: Global,
+    feeder: &mut LineFeeder,
+    bytes: &[u8],
+) -> Result<(), AllocError> {
+    let mut rest = bytes;
+    'lines: while let Some(others) = feeder.take_line(rest)? {
+        traffic.take_line(alloc, feeder.line())?;
+        rest = others;
+    }
+    Ok(())
+}
+
+// Reads the script, and takes its whole lines.
+fn read_lines<R: Read>(
+    traffic: &mut Traffic,
+    alloc: Global,
+    feeder: &mut LineFeeder,
+    reader: &mut R,
+    piece: &mut [u8],
+) -> Result<(), TrafficFault> {
+    for _ in 0..u64::MAX {
+        let n = match reader.read(piece) {
+            Ok(n) => n,
+            Err(error) => match error.kind() {
+                ErrorKind::Interrupted => continue,
+                _ => return Err(TrafficFault::from(error)),
+            },
+        };
+        if n == 0 {
+            return Ok(());
+        }
+        if !feeder.admit(n) {
+            return Err(TrafficFault::TooLong);
+        }
+        take(traffic, alloc, feeder, &piece[..n])?;
+    }
+    Ok(())
 }
 
 /// Reads a script: its publishes, by their topics. A line that is not a command is skipped.
 pub fn read_traffic<R: Read + Drop>(alloc: Global, reader: R) -> Result<Traffic, TrafficFault> {
-    let mut reader = BufReader::new(alloc, reader.take(SCRIPT_LIMIT + 1))?;
+    let mut reader = reader;
+    let mut piece = vec![in alloc; 0u8; PIECE]?;
     let mut traffic = Traffic::new(alloc);
-    let mut line = Vec::new(alloc);
-    let mut total: u64 = 0;
-    for _ in 0..u64::MAX {
-        line.clear();
-        let count = reader.read_until(b'\n', &mut line)?;
-        if count == 0 {
-            return Ok(traffic);
-        }
-        total = total.saturating_add(count as u64);
-        if total > SCRIPT_LIMIT {
-            return Err(TrafficFault::TooLong);
-        }
-        traffic.take_line(alloc, without_line_feed(&line))?;
+    let mut feeder = LineFeeder::new(alloc, SCRIPT_LIMIT);
+    read_lines(
+        &mut traffic,
+        alloc,
+        &mut feeder,
+        &mut reader,
+        piece.as_mut_slice(),
+    )?;
+    if feeder.has_last_piece() {
+        traffic.take_line(alloc, feeder.line())?;
     }
     Ok(traffic)
 }

@@ -13,12 +13,17 @@ pub finish-requires : goal.finish-requires
 unfolding script_limit
 finish-requires g c = let lines = c.in_ok-read_lines.ensures.lines in omega arith
 
+pub read_lines-requires-clause-room : goal.read_lines-requires-clause-room
+unfolding script_limit
+read_lines-requires-clause-room g c = c.new-2.ensures.room
+
 pub returns-clause-ok : goal.returns-clause-ok
 unfolding TakesBytes
 returns-clause-ok g c =
     let list = c.in_ok-list.list in
     let read = c.in_ok-read_lines.ensures.ok in
-    let start = HoldsScript-start list _ (c.new.ensures.searched list) c.new-2.ensures.items in
+    let start = HoldsScript-start list c.new.result c.new-2.result (c.new.ensures.searched list)
+    c.new-2.ensures.holds in
     let is = c.in_ok-list.ensures.ok in
     (read.0, read.1, read.2, rw (sym is) (c.in_ok-finish.ensures.ok read.0 (read.3 [] start)))
 
@@ -27,7 +32,8 @@ returns-in_err-read_lines-clause-err g c =
     let fault = err_from_is_err_and c.from_residual-in_err-read_lines.result
     c.from_residual-in_err-read_lines.ensures.1 in
     let list = c.in_ok-list.list in
-    let start = HoldsScript-start list _ (c.new.ensures.searched list) c.new-2.ensures.items in
+    let start = HoldsScript-start list c.new.result c.new-2.result (c.new.ensures.searched list)
+    c.new-2.ensures.holds in
     rw (fault.1, fault.2) (stopped c.args.rules c.args.rows.now list _ _ _ _
     c.in_ok-list.ensures.ok start
     c.in_err-read_lines.ensures.err)
@@ -39,7 +45,8 @@ returns-in_err-finish-clause-err g c =
     c.from_residual-in_err-finish.ensures.1 in
     let list = c.in_ok-list.list in
     let read = c.in_ok-read_lines.ensures.ok in
-    let start = HoldsScript-start list _ (c.new.ensures.searched list) c.new-2.ensures.items in
+    let start = HoldsScript-start list c.new.result c.new-2.result (c.new.ensures.searched list)
+    c.new-2.ensures.holds in
     rw (fault.1, fault.2) (
       read.0,
       read.1,

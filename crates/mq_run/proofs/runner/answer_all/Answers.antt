@@ -41,7 +41,7 @@ returns-clause-ending g c = λ w s.
         ended = all.2.ended;
         within = all.2.within;
         written = done.written;
-        summary = done.summary;
+        summary = record { lines = done.lines; refused = done.refused };
         reader = read.0;
         writer = let written = read.1 in omega arith;
       },

@@ -1,48 +1,61 @@
-use Rattle.std.proofs.Common.{◌≡◌, ◌++◌, ◌+◌, ◌-◌, ◌≤◌, [], ℕ, List, take, length, refl, ap, arith}
-use Rattle.std.proofs.Common.{rules, length-append, length-take-le}
+use Rattle.std.proofs.Common.{◌≡◌, ◌++◌, ◌+◌, [], ℕ, List, take, length, refl, ap, arith}
+use Rattle.std.proofs.Common.{rules, length-take-le, sym, ◌∙◌}
 use Rattle.std.proofs.lemmas.Result.{err_from_is_err_and}
 use Rattle.std.proofs.KnownBytes.{Consumes-nil, Consumes-trans, Consumes-kept}
+use Rattle.mq_jsonl.specs.Feeding.{open_line}
+use Rattle.mq_jsonl.proofs.FeedLemmas.{counted_more, lines_more}
 use Rattle.mq_run.specs.Running.{TakesBytes, StopsAmong}
-use Rattle.mq_run.proofs.RunLemmas.{Ending-stopped, Stopped-flush, Stopped-front, over_take}
-use Rattle.mq_run.proofs.StepLemmas.{TakesBytes-none, TakesBytes-then, TakesBytes-kept}
+use Rattle.mq_run.proofs.RunLemmas.{Ending-stopped, Stopped-flush, Stopped-front}
+use Rattle.mq_run.proofs.RunLemmas.{limit_over, over_take, room_within}
+use Rattle.mq_run.proofs.StepLemmas.{StopsAmong-next, TakesBytes-kept, TakesBytes-next}
+use Rattle.mq_run.proofs.StepLemmas.{TakesBytes-none}
 use Rattle.mq_run.proofs.runner.read_lines.Goals as goal
 
 pub reads-init : goal.reads-init
-reads-init g c = record {
-  within = omega arith;
-  lines =
-      let lines = c.requires.lines in
-      let none : length c.args.progress.now.line.items ≡ 0 = ap length c.requires.line in
-      omega arith;
-  reader = refl;
-  writer = refl;
-  takes = ([], Consumes-nil _, refl, TakesBytes-none _ _);
-}
+reads-init g c =
+    let room = c.requires.room in
+    record {
+      lines =
+          let lines = c.requires.lines in
+          let none : length (open_line c.args.progress.now.feeder) ≡ 0 =
+          ap length c.requires.line in
+          omega arith;
+      reader = refl;
+      writer = refl;
+      takes = ([], Consumes-nil _, omega arith, TakesBytes-none _ _);
+    }
 
 pub reads-preserved : goal.reads-preserved
 reads-preserved g c =
     let so_far = c.reads.invariant.takes in
     let so_taken = TakesBytes-kept _ _ _ _ _ _ so_far.3 c.in_ok-before_read.ensures.kept in
     let given : List ℕ = so_far.0 in
-    let len : length given ≡ c.reads.total = so_far.2 in
     let n : ℕ = c.in-Ok.n in
-    let buf : List ℕ = c.read.new.buf in
-    let bound : n ≤ length buf = c.in-Ok.ensures.bound in
+    let more : List ℕ = take n c.read.new.buf in
     let read = c.in-Ok.ensures.bytes in
-    let part : length (take n buf) ≡ n = length-take-le n buf bound in
-    let grown : length (given ++ take n buf) ≡ length given + n = rw length-append (omega arith) in
+    let part : length more ≡ n = length-take-le n c.read.new.buf c.in-Ok.ensures.bound in
+    let room : ℕ = c.reads.progress.feeder.room in
+    let left : ℕ = c.take-in-reads.new.self.feeder.room in
+    let less : left + n ≡ room =
+    ap (λ (k : ℕ). k + n) c.in_ok-take-2.ensures.room
+    ∙ c.admit.ensures.within c.if-not-admit.false in
     record {
-      within = omega arith;
-      lines = let lines = c.in_ok-take-2.ensures.lines in omega arith;
+      lines = lines_more c.reads.progress.summary.lines (length (open_line c.admit.new.self))
+          (length (open_line c.reads.progress.feeder))
+          (length (open_line c.take-in-reads.new.self.feeder))
+          c.take-in-reads.new.self.summary.lines n room left c.args.options.limit
+          c.reads.invariant.lines (ap length c.admit.ensures.line)
+          (rw (sym part) c.in_ok-take-2.ensures.lines) less;
       reader = let counted = c.in-Ok.ensures.counted in omega arith;
       writer = let counted = c.in_ok-take-2.ensures.counted in let flushed =
           c.in_ok-before_read.ensures.counted in omega arith;
       takes = (
-        given ++ take n buf,
-        Consumes-trans _ (g.R.Source.to_come c.reads.reader) _ given (take n buf) so_far.1 read.0,
-        omega arith,
-        TakesBytes-then c.args.progress.now c.reads.progress c.take-in-reads.new.self given
-            (take n buf) _ _ _ so_taken c.in_ok-take-2.ensures.takes,
+        given ++ more,
+        Consumes-trans _ (g.R.Source.to_come c.reads.reader) _ given more so_far.1 read.0,
+        counted_more given more n room left c.args.options.limit so_far.2 part less,
+        TakesBytes-next c.args.progress.now c.reads.progress _ c.take-in-reads.new.self given more
+            _ _ _ c.in_ok-take-2.ensures.takes (record { router = refl; summary = refl })
+            c.admit.ensures.line so_taken,
       );
     }
 
@@ -53,8 +66,8 @@ returns-in_err-before_read-clause-err g c = λ w start.
     let a = g.W.Sink.taken c.args.writer.now in
     let now = so_far.3 w [] a start in
     let fault = err_from_is_err_and c.from_residual.result c.from_residual.ensures.1 in
-    let stopped = Stopped-flush a _ _ w so_far.0 _ now.written c.in_err-before_read.ensures.kept
-    c.in_err-before_read.ensures.kind in
+    let stopped = Stopped-flush a _ _ w so_far.0 _ now.answered.written
+    c.in_err-before_read.ensures.kept c.in_err-before_read.ensures.kind in
     rw (fault.1, fault.2) (
       so_far.0,
       so_far.1,
@@ -78,7 +91,7 @@ returns-in-Err-clause-err g c = λ w start.
       Consumes-kept _ (g.R.Source.to_come c.reads.reader) _ so_far.0 so_far.1
           c.in-Err.ensures.bytes,
       record {
-        written = now.written;
+        written = now.answered.written;
         reader = let counted = c.in-Err.ensures.counted in omega arith;
         writer = let flushed = c.in_ok-before_read.ensures.counted in omega arith;
       },
@@ -88,29 +101,31 @@ pub returns-in-Err-clause-unbuffered : goal.returns-in-Err-clause-unbuffered
 returns-in-Err-clause-unbuffered g c = λ unbuffered failed.
     c.in_ok-before_read.ensures.flushed unbuffered
 
-pub returns-then-n-room-clause-err : goal.returns-then-n-room-clause-err
+pub returns-then-not-admit-clause-err : goal.returns-then-not-admit-clause-err
 unfolding TakesBytes
-returns-then-n-room-clause-err g c = λ w start.
+returns-then-not-admit-clause-err g c = λ w start.
     let so_far = c.reads.invariant.takes in
     let so_taken = TakesBytes-kept _ _ _ _ _ _ so_far.3 c.in_ok-before_read.ensures.kept in
     let given : List ℕ = so_far.0 in
-    let len : length given ≡ c.reads.total = so_far.2 in
     let n : ℕ = c.in-Ok.n in
     let buf : List ℕ = c.read.new.buf in
-    let bound : n ≤ length buf = c.in-Ok.ensures.bound in
-    let a = g.W.Sink.taken c.args.writer.now in
-    let now = c.in_ok-take.ensures.takes w given a (so_taken w [] a start) in
     let read = c.in-Ok.ensures.bytes in
-    let room : length given + (c.args.options.limit - c.reads.total) ≡ c.args.options.limit = omega arith in
-    let front = over_take given buf c.args.options.limit (c.args.options.limit - c.reads.total) n room (omega arith)
-    in
-    let grown : length (given ++ take n buf) ≡ length given + n =
-    rw (length-append, length-take-le n buf) in (
+    let a = g.W.Sink.taken c.args.writer.now in
+    let now = TakesBytes-next c.args.progress.now c.reads.progress _ _ given _ a _ _
+    c.in_ok-take.ensures.takes (record { router = refl; summary = refl }) c.admit.ensures.line
+    so_taken w [] a start in
+    let less = c.admit.ensures.over c.if-not-admit.true in
+    let is : c.room-room.result ≡ c.reads.progress.feeder.room = c.room-room.ensures ∙ less.1 in
+    let all : length given + c.room-room.result ≡ c.args.options.limit =
+    ap (λ (k : ℕ). length given + k) is ∙ so_far.2 in
+    let front = over_take given buf c.args.options.limit c.room-room.result n all
+    (room_within _ _ n is less.0) in (
       given ++ take n buf,
       Consumes-trans _ (g.R.Source.to_come c.reads.reader) _ given (take n buf) so_far.1 read.0,
       record {
-        over = omega arith;
-        written = rw front now.written;
+        over = limit_over given (take n buf) n _ _ so_far.2
+            (length-take-le n buf c.in-Ok.ensures.bound) less.0;
+        written = rw front now.answered.written;
         reader = let k = c.in-Ok.ensures.counted in omega arith;
         writer = let k = c.in_ok-take.ensures.counted in let flushed =
             c.in_ok-before_read.ensures.counted in omega arith;
@@ -127,15 +142,18 @@ returns-in_err-take-clause-err g c = λ w start.
     let buf : List ℕ = c.read.new.buf in
     let read = c.in-Ok.ensures.bytes in
     let a = g.W.Sink.taken c.args.writer.now in
-    let now = c.in_err-take.ensures.takes w given a (so_taken w [] a start) in
-    let room : c.args.options.limit - c.reads.total ≤ n = omega arith in
+    let now = StopsAmong-next c.args.progress.now c.reads.progress _ given _ _ a _ _
+    c.in_err-take.ensures.takes (record { router = refl; summary = refl }) c.admit.ensures.line
+    so_taken w [] a start in
+    let less = c.admit.ensures.over c.if-not-admit.true in
+    let is : c.room-room.result ≡ c.reads.progress.feeder.room = c.room-room.ensures ∙ less.1 in
     let fault = err_from_is_err_and c.from_residual-in_err-take.result
     c.from_residual-in_err-take.ensures.1 in
     rw (fault.1, fault.2) (
       given ++ take n buf,
       Consumes-trans _ (g.R.Source.to_come c.reads.reader) _ given (take n buf) so_far.1 read.0,
       Ending-stopped c.args.options.limit w _ _
-          (Stopped-front a _ w given buf (c.args.options.limit - c.reads.total) n _ room now)
+          (Stopped-front a _ w given buf c.room-room.result n _ (room_within _ _ n is less.0) now)
           (let k = c.in-Ok.ensures.counted in omega arith)
           (let k = c.in_err-take.ensures.counted in let flushed =
           c.in_ok-before_read.ensures.counted in omega arith),
@@ -151,7 +169,9 @@ returns-in_err-take-2-clause-err g c = λ w start.
     let buf : List ℕ = c.read.new.buf in
     let read = c.in-Ok.ensures.bytes in
     let a = g.W.Sink.taken c.args.writer.now in
-    let now = c.in_err-take-2.ensures.takes w given a (so_taken w [] a start) in
+    let now = StopsAmong-next c.args.progress.now c.reads.progress _ given _ _ a _ _
+    c.in_err-take-2.ensures.takes (record { router = refl; summary = refl }) c.admit.ensures.line
+    so_taken w [] a start in
     let fault = err_from_is_err_and c.from_residual-in_err-take-2.result
     c.from_residual-in_err-take-2.ensures.1 in
     rw (fault.1, fault.2) (

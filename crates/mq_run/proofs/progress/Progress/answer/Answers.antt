@@ -8,8 +8,8 @@ use Rattle.mq_run.proofs.progress.Progress.answer.Goals as goal
 pub returns-clause-answers : goal.returns-clause-answers
 returns-clause-answers g c =
     Answers-written c.write_all.result c.args.self.now _ c.in_ok-is_refused.is_refused
-    c.as_slice-2.result.now _ _
-    (λ w stands. rw (c.clear.ensures.items, c.as_slice.ensures.value, ← c.as_slice-2.ensures.value)
+    c.as_slice.result.now _ _
+    (λ w stands. rw (c.clear.ensures.items, c.line.ensures, ← c.as_slice.ensures.value)
     at (c.in_ok-is_refused.ensures.ok w stands))
     (ap (λ s. s.refused) c.with_line-self.ensures) (record {
       all = c.write_all.ensures.ok;
@@ -36,17 +36,9 @@ returns-in_err-is_refused-clause-lines g c =
     let fault = err_from_is_err_and c.from_residual.result c.from_residual.ensures.1 in
     rw (fault.1) tt
 
-pub returns-in_err-is_refused-clause-line : goal.returns-in_err-is_refused-clause-line
-returns-in_err-is_refused-clause-line g c =
-    let fault = err_from_is_err_and c.from_residual.result c.from_residual.ensures.1 in
-    rw (fault.1) tt
-
 pub returns-clause-counted : goal.returns-clause-counted
 returns-clause-counted g c = c.write_all.ensures.counted
 
 pub returns-clause-lines : goal.returns-clause-lines
 returns-clause-lines g c =
     at_ok c.write_all.result _ (ap (λ s. s.lines) c.with_line-self.ensures)
-
-pub returns-clause-line : goal.returns-clause-line
-returns-clause-line g c = at_ok c.write_all.result _ c.clear-2.ensures.items

@@ -1,4 +1,5 @@
 use Rattle.std.proofs.Common.{◌≡◌, ◌≤◌, ◌+◌, ◌++◌, List, ℕ, length}
+use Rattle.mq_jsonl.specs.Feeding.{open_line}
 use Rattle.mq_run.specs.Running.{TakesBytes}
 use Rattle.mq_run.proofs.progress.Progress.take.Given as goal
 
@@ -9,8 +10,9 @@ invariant-lines g l =
       takes : (done : List ℕ) × (l.bytes ≡ done ++ l.rest)
           × TakesBytes l.fn.self l.self done (taken l.fn.writer) (taken l.writer);
       counted : g.W.Sink.failures l.writer ≡ g.W.Sink.failures l.fn.writer;
-      lines : l.self.summary.lines + length l.self.line.items + length l.rest
-          ≤ l.fn.self.summary.lines + length l.fn.self.line.items + length l.bytes;
+      lines : l.self.summary.lines + length (open_line l.self.feeder) + length l.rest
+          ≤ l.fn.self.summary.lines + length (open_line l.fn.self.feeder) + length l.bytes;
+      room : l.self.feeder.room ≡ l.fn.self.feeder.room;
     }
 
 abbrev pub decreases-lines : goal.decreases-lines
