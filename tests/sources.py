@@ -42,8 +42,8 @@ MADE_OF = {
     "Ends": "heap: BinaryHeap<(Reverse<u64>, RcStr)>",
     "Subscriptions": "alloc: Global, tree: LevelTree<FilterEntry>, lists: ClientLists",
     "Retained": "alloc: Global, tree: Messages, deadlines: Deadlines",
-    "RowsByAccess": "denies: RowsByOwner, grants: RowsByOwner",
-    "RowsByOwner": "everyone: Vec<Row>, anonymous: Vec<Row>, named: BTreeMap<String, Vec<Row>>",
+    "RowsByAccess": "denies: ByOwner<Row>, grants: ByOwner<Row>",
+    "ByOwner": "everyone: Vec<T>, anonymous: Vec<T>, named: BTreeMap<String, Vec<T>>",
     "Row": "line: u64, owner: Owner, access: Access, filter: TopicFilter",
     "Session":
     "user: Option<String>, interval: u32, presence: Presence, waiting: LinkedList<Waiting>",

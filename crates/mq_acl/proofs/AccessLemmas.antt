@@ -6,13 +6,11 @@ use Rattle.mq_acl.specs.AccessLists.{AccessList, allow_by, allowed}
 use Rattle.mq_acl.specs.Access.{is_deny, grants, concerns, covers, applies, rows_allow}
 use Rattle.mq_acl.specs.Lines.{Access, Read, Write, ReadWrite, Deny}
 use Rattle.mq_acl.specs.Rows.{AclRow}
-use Rattle.mq_acl.specs.RowsByOwner.{IsGrouped, everyones, own_rows}
-use Rattle.mq_acl.specs.Views.{row_view, row_views}
+use Rattle.mq_acl.specs.Views.{access_view, row_view, row_views, row_who}
 use Rattle.mq_acl.specs.declared.access.Direction.{Direction}
 use Rattle.mq_acl.specs.declared.access.Direction.TheVariants.{Reading, Writing}
 use Rattle.mq_acl.specs.declared.row.Row.{Row}
-use Rattle.mq_acl.specs.declared.rows_by_owner.RowsByOwner.{RowsByOwner}
-use Rattle.mq_acl.proofs.RowsByOwnerLemmas.{any_kept, any_of_groups}
+use Rattle.mq_acl.proofs.ByOwnerLemmas.{any_kept}
 
 -- a row that grants doesn't deny
 pub grants_only : (direction : Direction) (access : Access)
@@ -57,40 +55,37 @@ pub any_viewed : (test : AclRow → Bool) (rows : List Row)
 any_viewed test [] = refl
 any_viewed test (row ∷ rows) = ap (λ b. test (row_view row) || b) (any_viewed test rows)
 
--- where it is tried of the rows for all clients, and then of those for this user alone
-pub any_by_owner : (test : AclRow → Bool) (user : Option (List ℕ)) (rows : List AclRow)
-    (by_owner : RowsByOwner) (all : List Row) (own : List AclRow) {first : Bool}
-    → IsGrouped rows by_owner → row_views all ≡ everyones by_owner → own ≡ own_rows user by_owner
-    → first ≡ list_any (λ row. test (row_view row)) all
-    → (first || list_any test own) ≡ list_any (λ row. applies user row.who && test row) rows
-any_by_owner test user rows by_owner all own grouped all_is own_is first_is =
-    ap (λ b. b || list_any test own) (first_is ∙ any_viewed test all)
-    ∙ (λ i. list_any test ((all_is ∙ grouped.all) i)
-    || list_any test ((own_is ∙ grouped.own user) i))
-    ∙ any_of_groups user test rows
-
 -- what the rows that deny say, and those that grant, is what all rows say
 pub allowed_by_access : (client : List ℕ) (user : Option (List ℕ)) (name : List ℕ)
-    (direction : Direction) (rows : List AclRow) (denied granted : Bool)
-    → denied ≡ list_any (concerns client user name) (filter (λ row. is_deny row.access) rows)
-    → granted ≡ list_any (λ row. applies user row.who
-    && (grants direction row.access && covers client user name row))
-    (filter (λ row. not (is_deny row.access)) rows)
-    → (not denied && granted) ≡ rows_allow rows client user name direction
+    (direction : Direction) (rows : List Row) (denied granted : Bool)
+    → denied ≡ list_any (λ row. concerns client user name (row_view row))
+    (filter (λ row. is_deny (access_view row.access)) rows)
+    → granted ≡ list_any (λ row. applies user (row_who row)
+    && (grants direction (access_view row.access) && covers client user name (row_view row)))
+    (filter (λ row. not (is_deny (access_view row.access))) rows)
+    → (not denied && granted) ≡ rows_allow (row_views rows) client user name direction
 allowed_by_access client user name direction rows denied granted denied_is granted_is =
     (λ i. not (denied_is i) && granted_is i)
-    ∙ (λ i. not (any_kept (concerns client user name) (λ row. is_deny row.access) rows i)
-    && any_kept (λ row. applies user row.who && grant row) (λ row. not (is_deny row.access)) rows i)
-    ∙ (λ i. not (list_any (λ row. denied_among (applies user row.who) (cov row) (is_deny row.access) i)
-    rows)
-    && list_any (λ row. granted_among (applies user row.who) (cov row) (grants direction row.access)
-    (not (is_deny row.access)) (grants_only direction row.access) i) rows)
+    ∙ (λ i. not (any_kept (λ row. own row && cov row) denies rows i)
+    && any_kept (λ row. own row && grant row) (λ row. not (denies row)) rows i)
+    ∙ (λ i. not (list_any (λ row. denied_among (own row) (cov row) (denies row) i) rows)
+    && list_any (λ row. granted_among (own row) (cov row)
+    (grants direction (access_view row.access)) (not (denies row))
+    (grants_only direction (access_view row.access)) i) rows)
+    ∙ (λ i. not (any_viewed (λ row. concerns client user name row && is_deny row.access) rows i)
+    && any_viewed (λ row. concerns client user name row && grants direction row.access) rows i)
   where
-    cov : AclRow → Bool
-    cov row = covers client user name row
+    own : Row → Bool
+    own row = applies user (row_who row)
 
-    grant : AclRow → Bool
-    grant row = grants direction row.access && covers client user name row
+    cov : Row → Bool
+    cov row = covers client user name (row_view row)
+
+    denies : Row → Bool
+    denies row = is_deny (access_view row.access)
+
+    grant : Row → Bool
+    grant row = grants direction (access_view row.access) && cov row
 
 -- with a list its rows decide
 pub allowed_by_list : (list : AccessList) (client : List ℕ) (user : Option (List ℕ))

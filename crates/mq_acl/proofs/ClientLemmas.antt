@@ -18,7 +18,7 @@ use Rattle.mq_acl.specs.RowsByOwner.{is_everyones, is_own}
 use Rattle.mq_acl.specs.declared.access.Direction.{Direction}
 use Rattle.mq_acl.specs.declared.rules.Rules.{Rules}
 use Rattle.mq_acl.specs.declared.rules.Rules.TheVariants.{Own, Mosquitto}
-use Rattle.mq_acl.proofs.RowsByOwnerLemmas.{any_kept}
+use Rattle.mq_acl.proofs.ByOwnerLemmas.{any_kept}
 
 -- tests that agree on all that isn't left out agree on lists without that
 same_any : {X : Type 0} (out p q : X → Bool) → ((x : X) → out x ≡ false → p x ≡ q x)

@@ -1,7 +1,7 @@
 pub mod StartLemmas
 pub mod AccessLemmas
 pub mod FaultLemmas
-pub mod RowsByOwnerLemmas
+pub mod ByOwnerLemmas
 pub mod RowLemmas
 pub mod WordLemmas
 pub mod FilledLemmas

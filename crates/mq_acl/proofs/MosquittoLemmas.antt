@@ -15,7 +15,7 @@ use Rattle.mq_acl.specs.Views.{access_view, row_view, row_views}
 use Rattle.mq_acl.specs.declared.access.Direction.{Direction}
 use Rattle.mq_acl.specs.declared.row.Row.{Row}
 use Rattle.mq_acl.proofs.AccessLemmas.{any_viewed, grants_only}
-use Rattle.mq_acl.proofs.RowsByOwnerLemmas.{any_kept}
+use Rattle.mq_acl.proofs.ByOwnerLemmas.{any_kept}
 
 -- a row of a `pattern` line covers what its filter does, its marks replaced
 pub pattern_covers : (client : List ℕ) (user : Option (List ℕ)) (name : List ℕ) (row : AclRow)
@@ -54,40 +54,55 @@ granted_kept k c g o e = ordered k c g o ∙ ap (λ b. k && (c && b)) (sym e)
 
 -- the rows of these that are kept decide as those of them that deny and those that grant
 pub verdict_of : (client : List ℕ) (user : Option (List ℕ)) (name : List ℕ) (direction : Direction)
-    (keep : AclRow → Bool) (rows : List AclRow) (denies granting : List Row)
-    → row_views denies ≡ filter keep (filter (λ row. is_deny row.access) rows)
-    → row_views granting ≡ filter keep (filter (λ row. not (is_deny row.access)) rows)
+    (keep : AclRow → Bool) (rows denies granting : List Row)
+    → denies ≡ filter (λ row. keep (row_view row))
+    (filter (λ row. is_deny (access_view row.access)) rows)
+    → granting ≡ filter (λ row. keep (row_view row))
+    (filter (λ row. not (is_deny (access_view row.access))) rows)
     → decision (list_any (λ row. row_covers client user name (row_view row)) denies)
     (list_any (λ row. grants direction (access_view row.access)
     && row_covers client user name (row_view row)) granting)
-    ≡ verdict client user name direction (filter keep rows)
+    ≡ verdict client user name direction (filter keep (row_views rows))
 verdict_of client user name direction keep rows denies granting d g =
-    (λ i. decision (any_viewed cov denies i) (any_viewed grant granting i))
-    ∙ (λ i. decision (list_any cov (d i)) (list_any grant (g i)))
-    ∙ (λ i. decision (denied i) (granted i))
+    (λ i. decision (denied i) (granted i))
   where
-    cov : AclRow → Bool
-    cov row = row_covers client user name row
+    kept : Row → Bool
+    kept row = keep (row_view row)
 
-    grant : AclRow → Bool
-    grant row = grants direction row.access && cov row
+    cov : Row → Bool
+    cov row = row_covers client user name (row_view row)
 
-    denied : list_any cov (filter keep (filter (λ row. is_deny row.access) rows))
-        ≡ list_any (λ row. cov row && is_deny row.access) (filter keep rows)
+    deny : Row → Bool
+    deny row = is_deny (access_view row.access)
+
+    grant : Row → Bool
+    grant row = grants direction (access_view row.access)
+
+    denied : list_any cov denies
+        ≡ list_any (λ row. row_covers client user name row && is_deny row.access)
+        (filter keep (row_views rows))
     denied =
-        any_kept cov keep (filter (λ row. is_deny row.access) rows)
-        ∙ any_kept (λ row. keep row && cov row) (λ row. is_deny row.access) rows
-        ∙ (λ i. list_any (λ row. denied_kept (keep row) (cov row) (is_deny row.access) i) rows)
-        ∙ sym (any_kept (λ row. cov row && is_deny row.access) keep rows)
+        ap (list_any cov) d ∙ any_kept cov kept (filter deny rows)
+        ∙ any_kept (λ row. kept row && cov row) deny rows
+        ∙ (λ i. list_any (λ row. denied_kept (kept row) (cov row) (deny row) i) rows)
+        ∙ any_viewed (λ row. keep row
+        && (row_covers client user name row && is_deny row.access)) rows
+        ∙ sym (any_kept (λ row. row_covers client user name row && is_deny row.access) keep
+        (row_views rows))
 
-    granted : list_any grant (filter keep (filter (λ row. not (is_deny row.access)) rows))
-        ≡ list_any (λ row. cov row && grants direction row.access) (filter keep rows)
+    granted : list_any (λ row. grant row && cov row) granting
+        ≡ list_any (λ row. row_covers client user name row && grants direction row.access)
+        (filter keep (row_views rows))
     granted =
-        any_kept grant keep (filter (λ row. not (is_deny row.access)) rows)
-        ∙ any_kept (λ row. keep row && grant row) (λ row. not (is_deny row.access)) rows
-        ∙ (λ i. list_any (λ row. granted_kept (keep row) (cov row) (grants direction row.access)
-        (not (is_deny row.access)) (grants_only direction row.access) i) rows)
-        ∙ sym (any_kept (λ row. cov row && grants direction row.access) keep rows)
+        ap (list_any (λ row. grant row && cov row)) g
+        ∙ any_kept (λ row. grant row && cov row) kept (filter (λ row. not (deny row)) rows)
+        ∙ any_kept (λ row. kept row && (grant row && cov row)) (λ row. not (deny row)) rows
+        ∙ (λ i. list_any (λ row. granted_kept (kept row) (cov row) (grant row) (not (deny row))
+        (grants_only direction (access_view row.access)) i) rows)
+        ∙ any_viewed (λ row. keep row
+        && (row_covers client user name row && grants direction row.access)) rows
+        ∙ sym (any_kept (λ row. row_covers client user name row && grants direction row.access) keep
+        (row_views rows))
 
 -- the client's own rows decide, and where none of them covers the name those for all clients
 pub allowed_in_turn : (client : List ℕ) (user known : Option (List ℕ)) (name : List ℕ)

@@ -5,6 +5,7 @@ pub mod Views
 pub mod Access
 pub mod Starts
 pub mod RowsByOwner
+pub mod ByOwner
 pub mod RowsByAccess
 pub mod Filled
 pub mod Mosquitto

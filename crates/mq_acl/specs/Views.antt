@@ -46,6 +46,9 @@ row_view row = record {
       row.filter;
 }
 
+abbrev pub row_who : Row → Who
+row_who row = owner_view row.owner
+
 abbrev pub row_views : List Row → List AclRow
 row_views all = map row_view all
 

@@ -57,7 +57,7 @@ impl Model for Acl {
 
     ghost view = { λ acl. record { rules = acl.rules; rows = row_views acl.order.value.items } };
 
-    ghost invariant = { λ acl. IsSplit (row_views acl.order.value.items) acl.by_access
+    ghost invariant = { λ acl. IsSplit acl.order.value.items acl.by_access
         × (acl.asks_client ≡ ask_client acl.rules (row_views acl.order.value.items)) };
 }
 

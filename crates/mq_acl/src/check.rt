@@ -3,17 +3,17 @@ ghost use Rattle.std.specs.List.{list_any};
 ghost use Rattle.std.specs.Option.{option_copied};
 ghost use Rattle.mq_acl.specs.Access.{row_level_matches, begins_with_dollar, covers, applies};
 ghost use Rattle.mq_acl.specs.Access.{grants, concerns, rows_allow};
-ghost use Rattle.mq_acl.specs.Rows.{AclRow};
+ghost use Rattle.mq_acl.specs.ByOwner.{IsGrouped};
 ghost use Rattle.mq_acl.specs.RowsByAccess.{IsSplit};
-ghost use Rattle.mq_acl.specs.RowsByOwner.{IsGrouped};
 ghost use Rattle.mq_topic.specs.Levels.{levels};
 ghost use Rattle.mq_topic.specs.Matching.{levels_match_by};
-ghost use Rattle.mq_acl.specs.Views.{access_view, owner_view, row_view};
+ghost use Rattle.mq_acl.specs.Views.{access_view, owner_view, row_view, row_views, row_who};
+ghost use Rattle.mq_acl.specs.declared.row.Row.{Row};
 
 use crate::access::{Direction, grants};
+use crate::by_owner::ByOwner;
 use crate::row::{Owner, Row};
 use crate::rows_by_access::RowsByAccess;
-use crate::rows_by_owner::RowsByOwner;
 use crate::starts::starts_apart;
 use mq_topic::{LevelTest, LevelText, TopicName, levels_match};
 
@@ -111,9 +111,9 @@ fn any_grants(
 }
 
 // Whether one of the rows for all clients, or for this user alone, covers the name.
-fn is_denied(denies: &RowsByOwner, client: &str, user: Option<&str>, name: &TopicName) -> bool
-    ensures { (rows : List AclRow) → IsGrouped rows denies.now
-        → result ≡ list_any (concerns client.now (option_copied user.entry) name.now) rows }
+fn is_denied(denies: &ByOwner<Row>, client: &str, user: Option<&str>, name: &TopicName) -> bool
+    ensures { (rows : List Row) → IsGrouped row_who rows denies.now → result ≡ list_any
+        (λ row. concerns client.now (option_copied user.entry) name.now (row_view row)) rows }
 {
     any_covers(denies.everyone(), client, user, name)
         || any_covers(denies.own(user), client, user, name)
@@ -121,16 +121,16 @@ fn is_denied(denies: &RowsByOwner, client: &str, user: Option<&str>, name: &Topi
 
 // Whether one of them grants the name. The first that does decides.
 fn is_granted(
-    granting: &RowsByOwner,
+    granting: &ByOwner<Row>,
     client: &str,
     user: Option<&str>,
     name: &TopicName,
     direction: Direction,
 ) -> bool
-    ensures { (rows : List AclRow) → IsGrouped rows granting.now
-        → result ≡ list_any (λ row. applies (option_copied user.entry) row.who
-        && (grants direction row.access
-        && covers client.now (option_copied user.entry) name.now row)) rows }
+    ensures { (rows : List Row) → IsGrouped row_who rows granting.now
+        → result ≡ list_any (λ row. applies (option_copied user.entry) (row_who row)
+        && (grants direction (access_view row.access)
+        && covers client.now (option_copied user.entry) name.now (row_view row))) rows }
 {
     any_grants(granting.everyone(), client, user, name, direction)
         || any_grants(granting.own(user), client, user, name, direction)
@@ -144,8 +144,8 @@ pub(crate) fn rows_allow(
     name: &TopicName,
     direction: Direction,
 ) -> bool
-    ensures { (rows : List AclRow) → IsSplit rows by_access.now
-        → result ≡ rows_allow rows client.now (option_copied user.entry) name.now direction }
+    ensures { (rows : List Row) → IsSplit rows by_access.now
+        → result ≡ rows_allow (row_views rows) client.now (option_copied user.entry) name.now direction }
 {
     !is_denied(&by_access.denies, client, user, name)
         && is_granted(&by_access.grants, client, user, name, direction)

@@ -12,10 +12,12 @@ ghost use Rattle.mq_acl.specs.Filled.{filled};
 
 use mq_topic::{is_hidden, is_last_hash, split_first};
 
-/// What stands in the place of `%c` and of `%u`: no text with a wildcard.
+/// What stands in the place of `%c` and of `%u`.
 #[derive(Clone, Copy)]
-pub(crate) struct Names<'a> {
+pub struct Names<'a> {
+    /// In that of `%c`.
     pub client: &'a str,
+    /// In that of `%u`.
     pub user: &'a str,
 }
 
@@ -34,8 +36,8 @@ fn behind_first(name: &[u8]) -> Option<&[u8]>
 }
 
 impl<'a> Names<'a> {
-    // What the text begins with, its mark replaced, and what is left of it.
-    fn split_piece(self, text: &'a [u8]) -> Option<(&'a [u8], &'a [u8])>
+    /// What the text begins with, its mark replaced, and what is left of it.
+    pub fn split_piece(self, text: &'a [u8]) -> Option<(&'a [u8], &'a [u8])>
         ensures none { IfNone result (text.now ≡ []) }
         ensures some { IfSome result (λ parts.
             filled self.entry.client.now self.entry.user.now text.now

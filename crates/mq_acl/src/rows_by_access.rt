@@ -3,20 +3,19 @@
 //! Of a client and a topic, those that deny are asked first, and then those that grant: the first
 //! that covers the topic decides.
 ghost use Rattle.std.specs.Prelude.{◌≡◌, [], ◌++◌, ◌∷◌, List, IfOk, OnOk};
-ghost use Rattle.mq_acl.specs.Rows.{AclRow};
-ghost use Rattle.mq_acl.specs.Views.{row_view, row_views};
 ghost use Rattle.mq_acl.specs.RowsByAccess.{IsSplit};
+ghost use Rattle.mq_acl.specs.declared.row.Row.{Row};
 
 use crate::access::is_deny;
+use crate::by_owner::ByOwner;
 use crate::row::Row;
-use crate::rows_by_owner::RowsByOwner;
 use std::alloc::{AllocError, Global};
 
 /// The rows that deny, and those that grant, each by whom they are for.
 #[derive(Debug)]
 pub(crate) struct RowsByAccess {
-    pub(crate) denies: RowsByOwner,
-    pub(crate) grants: RowsByOwner,
+    pub(crate) denies: ByOwner<Row>,
+    pub(crate) grants: ByOwner<Row>,
 }
 
 // Opaque to callers' proofs: one step, and not one for each field (docs/explanation/gate.md).
@@ -34,14 +33,14 @@ impl RowsByAccess {
         ensures { IsSplit [] result }
     {
         RowsByAccess {
-            denies: RowsByOwner::new(alloc),
-            grants: RowsByOwner::new(alloc),
+            denies: ByOwner::new(alloc),
+            grants: ByOwner::new(alloc),
         }
     }
 
     fn add(&mut self, row: Row) -> Result<(), AllocError>
-        ensures { OnOk result ((rows : List AclRow) → IsSplit rows self.old
-            → IsSplit (rows ++ (row_view row ∷ [])) self.new) }
+        ensures { OnOk result ((rows : List Row) → IsSplit rows self.old
+            → IsSplit (rows ++ (row ∷ [])) self.new) }
     {
         if is_deny(row.access) {
             self.denies.add(row)
@@ -52,7 +51,7 @@ impl RowsByAccess {
 
     /// These rows.
     pub(crate) fn of(alloc: Global, rows: Vec<Row>) -> Result<RowsByAccess, AllocError>
-        ensures { IfOk result (λ by_access. IsSplit (row_views rows.items) by_access) }
+        ensures { IfOk result (λ by_access. IsSplit rows.items by_access) }
     {
         let mut by_access = RowsByAccess::new(alloc);
         for row in rows {

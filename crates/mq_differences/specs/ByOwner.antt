@@ -1,9 +1,9 @@
 -- The rows of a list by whom they are for.
-use Rattle.std.specs.Prelude.{◌≡◌, Bool, true, false, List, [], ◌||◌}
+use Rattle.std.specs.Prelude.{◌≡◌, Bool, true, false, List, [], ◌||◌, Some, None}
 use Rattle.std.specs.List.{filter}
-use Rattle.std.specs.Option.{option_map_or}
-use Rattle.std.specs.BTreeMap.{get_by_text}
 use Rattle.std.specs.Str.{bytes_eq}
+use Rattle.mq_acl.specs.ByOwner.{own_items}
+use Rattle.mq_acl.specs.ByOwner as acl
 use Rattle.mq_acl.specs.Rows.{Who}
 use Rattle.mq_acl.specs.Rows as rows
 use Rattle.mq_acl.specs.RowsByOwner.{is_everyones}
@@ -28,12 +28,11 @@ abbrev pub is_for : Clients → Who → Bool
 is_for clients who = is_everyones who || is_own clients who
 
 abbrev pub everyones : ByOwner → List Marked
-everyones by_owner = by_owner.everyone.items
+everyones by_owner = acl.everyones by_owner.rows
 
 abbrev pub own_rows : Clients → ByOwner → List Marked
-own_rows Anonymous by_owner = by_owner.anonymous.items
-own_rows (Named name) by_owner =
-    option_map_or (λ rows. rows.items) (get_by_text by_owner.named name.now) []
+own_rows Anonymous by_owner = own_items None by_owner.rows
+own_rows (Named name) by_owner = own_items (Some name.now) by_owner.rows
 own_rows Others by_owner = []
 
 -- the rows by whom they are for, each group in their order

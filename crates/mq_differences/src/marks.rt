@@ -1,11 +1,11 @@
 //! The rows of a list, each with whether another list is known to have one that does as much.
 ghost use Rattle.std.specs.Prelude.{◌≡◌, ◌&&◌, true, false, All, IfOk, map};
 ghost use Rattle.std.specs.List.{list_any};
-ghost use Rattle.mq_acl.specs.Views.{access_view, owner_view, row_view, row_views};
+ghost use Rattle.mq_acl.specs.Views.{access_view, owner_view, row_view, row_views, row_who};
 ghost use Rattle.mq_differences.specs.Marks.{IsKept, ArePlaced, does_as_much, has_twin, grants_all};
 ghost use Rattle.mq_differences.specs.Marks.{same_who};
 
-use mq_acl::{Access, Owner, Row};
+use mq_acl::{Access, Owned, Owner, Row};
 use mq_topic::LevelText;
 use std::alloc::{AllocError, Global};
 use std::collections::BTreeMap;
@@ -20,6 +20,14 @@ pub struct Marked<'a> {
     /// Whether the other list is known to have a row for the same clients, with the same filter, that denies if this one
     /// does, and else grants what this one grants.
     pub kept: bool,
+}
+
+impl Owned for Marked<'_> {
+    ghost who = { λ m. row_who m.row.now };
+
+    fn owner(&self) -> &Owner {
+        &self.row.owner
+    }
 }
 
 /// Whether rows of these owners are for the same clients.

@@ -1,7 +1,8 @@
 -- What is shown of each row.
 use Rattle.std.proofs.Common.{◌≡◌, ◌<◌, ◌+◌, ℕ, zero, suc, Bool, true, false, List, [], ◌∷◌}
 use Rattle.std.proofs.Common.{◌++◌, Option, Contains, length, get_or, ltb, refl, ap, sym}
-use Rattle.std.proofs.Common.{◌∙◌, subst, arith, length-append}
+use Rattle.std.proofs.Common.{◌∙◌, subst, arith, length-append, Result, Ok, Err, IfErr}
+use Rattle.std.specs.Result.{IsErrAnd}
 use Rattle.std.proofs.lemmas.Bool.{ltb-true, ltb-false}
 use Rattle.std.proofs.lemmas.List.Elements.{All-contains_itself}
 use Rattle.mq_differences.proofs.FirstLemmas.{All-unmap}
@@ -9,7 +10,8 @@ use Rattle.mq_acl.specs.Views.{line_views}
 use Rattle.mq_acl.specs.declared.row.Row.{Row}
 use Rattle.mq_acl.specs.declared.rules.Rules.{Rules}
 use Rattle.mq_lint.specs.Needless.{IsKind}
-use Rattle.mq_lint.specs.NeedlessFault.{IsStop, IsStopIn}
+use Rattle.mq_lint.specs.NeedlessFault.{IsStop, IsStopIn, IsNeedlessFault}
+use Rattle.mq_differences.specs.Steps.{enough_steps}
 use Rattle.mq_lint.specs.declared.fault.NeedlessFault.{NeedlessFault}
 use Rattle.mq_lint.specs.declared.fault.NeedlessFault.TheVariants.{Memory, Line, Mark, GaveUp}
 use Rattle.mq_lint.specs.declared.remark.RemarkKind.{RemarkKind}
@@ -71,6 +73,21 @@ line_inside rows n row low is =
     subst (λ (r : Row). Contains (line_views rows) r.line) (sym is)
     (All-unmap (Contains (line_views rows)) (λ (r : Row). r.line) rows
     (All-contains_itself (line_views rows)) n row low)
+
+-- that shows what there is to show of the list
+pub fault_of_stop : (rules : Rules) (rows : List Row) (steps : ℕ) (limited : Bool)
+    (fault : NeedlessFault) → (limited ≡ true → steps < enough_steps (length rows))
+    → IsStopIn rows limited fault → IsNeedlessFault rules rows steps fault
+fault_of_stop rules rows steps limited Memory few h = tt
+fault_of_stop rules rows steps limited (Line line) few h = absurd h
+fault_of_stop rules rows steps limited (Mark line) few h = absurd h
+fault_of_stop rules rows steps limited (GaveUp line others) few h = (h.0, few h.1)
+
+-- the fault that is handed on
+pub handed_on : {T : Type 0} (r : Result T NeedlessFault) (fault : NeedlessFault)
+    (Q : NeedlessFault → Type 0) → IsErrAnd r (λ other. other ≡ fault) → Q fault → IfErr r Q
+handed_on (Ok v) fault Q is q = tt
+handed_on (Err other) fault Q is q = rw is q
 
 -- it is shown of a row of the list
 pub stop_in : (rows : List Row) (limited : Bool) (n : ℕ) (row : Row) (fault : NeedlessFault)

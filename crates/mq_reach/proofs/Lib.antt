@@ -1,5 +1,6 @@
 pub mod KeyLemmas
 pub mod StayLemmas
+pub mod OwnerLemmas
 pub mod ReachLemmas
 pub mod MatchLemmas
 pub mod FilledLemmas

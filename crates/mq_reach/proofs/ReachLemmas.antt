@@ -1,6 +1,6 @@
 -- What rows say of a topic.
 use Rattle.std.proofs.Common.{◌≡◌, ◌<◌, ℕ, zero, suc, ◌+◌, Bool, true, false, cond, ◌&&◌, ◌||◌, not}
-use Rattle.std.proofs.Common.{List, [], ◌∷◌, ◌++◌, length, map, take, drop, get_or, Option, Some, None}
+use Rattle.std.proofs.Common.{List, [], ◌∷◌, ◌++◌, length, drop, get_or, Option, Some, None}
 use Rattle.std.proofs.Common.{All, Contains, Bor, refl, sym, ◌∙◌, ap, subst, true≢false, ◌⊎◌, inl, inr}
 use Rattle.std.proofs.Common.{add-one, drop-cons, arith, eqb}
 use Rattle.std.specs.Prelude.{IfNone, IfSome}
@@ -11,7 +11,7 @@ use Rattle.std.proofs.lemmas.Bool.{and_from, and_parts}
 use Rattle.std.proofs.lemmas.Bool.Decides.{Decides-eqb}
 use Rattle.std.proofs.lemmas.List.{length-map, map-append}
 use Rattle.std.proofs.lemmas.List.Elements.{All-contains, All-contains_itself, All-filter}
-use Rattle.std.proofs.lemmas.List.Elements.{All-get_or, All-push, filter_more}
+use Rattle.std.proofs.lemmas.List.Elements.{All-get_or, All-push}
 use Rattle.std.proofs.lemmas.List.Folds.{Any-from_list_any, list_all_at, list_any-append}
 use Rattle.std.proofs.lemmas.List.Folds.{list_any_at}
 use Rattle.mq_acl.specs.AccessLists.{AccessList, allow_by}
@@ -20,7 +20,7 @@ use Rattle.mq_acl.specs.Access.{applies, concerns, covers, grants, is_deny}
 use Rattle.mq_acl.specs.Rows.{AclRow}
 use Rattle.mq_acl.specs.RowsByOwner.{is_everyones, is_own}
 use Rattle.mq_acl.specs.declared.access.Direction.TheVariants.{Reading}
-use Rattle.mq_acl.proofs.RowsByOwnerLemmas.{any_kept, any_of_groups}
+use Rattle.mq_acl.proofs.ByOwnerLemmas.{any_kept, any_of_groups}
 use Rattle.mq_witness.specs.Decided.{decides}
 use Rattle.mq_witness.specs.Limits.{has_short_levels, is_short_row, long_line, short_who}
 use Rattle.mq_witness.specs.Rows.{lent_rows}
@@ -32,24 +32,6 @@ use Rattle.mq_reach.specs.Reach.{IsReachFault, reach_fault}
 use Rattle.mq_acl.specs.Views.{row_view, row_views}
 use Rattle.mq_acl.specs.declared.row.Row.{Row}
 use Rattle.mq_world.proofs.BoolLemmas.{pick}
-use Rattle.mq_world.proofs.ListLemmas.{map-filter}
-
--- those that pass, with one row more
-pub passed-more : (p : AclRow → Bool) (rows : List Row) (i : ℕ) (d : Row) → i < length rows
-    → filter p (row_views (take (i + 1) rows))
-    ≡ filter p (row_views (take i rows))
-    ++ cond (p (row_view (get_or rows i d))) (row_view (get_or rows i d) ∷ []) []
-passed-more p rows i d low =
-    let x : Row = get_or rows i d in
-    sym (map-filter row_view p (take (i + 1) rows))
-    ∙ ap (map row_view) (filter_more (λ row. p (row_view row)) rows i d low)
-    ∙ map-append row_view (filter (λ row. p (row_view row)) (take i rows))
-    (cond (p (row_view x)) (x ∷ []) [])
-    ∙ (λ j. map-filter row_view p (take i rows) j ++ one (p (row_view x)) x j)
-  where
-    one : (b : Bool) (x : Row) → map row_view (cond b (x ∷ []) []) ≡ cond b (row_view x ∷ []) []
-    one true x = refl
-    one false x = refl
 
 -- ## Which rows concern a topic
 
@@ -80,7 +62,7 @@ any-grouped client user name rows everyone own all its =
     || list_any (concerns client user name) (all i))
     ∙ or_comm (list_any (concerns client user name) (filter (λ row. is_own user row.who) rows))
     (list_any (concerns client user name) (filter (λ row. is_everyones row.who) rows))
-    ∙ any_of_groups user (concerns client user name) rows
+    ∙ any_of_groups (λ row. row.who) user (concerns client user name) rows
     ∙ (λ i. list_any (λ row. twice (applies user row.who) (covers client user name row) i) rows)
   where
     twice : (a c : Bool) → (a && (a && c)) ≡ (a && c)
@@ -252,10 +234,6 @@ among-more listed old new rows i x low is (inl e) all before =
 pub all-grouped : (test : AclRow → Bool) (rows : List AclRow)
     → All (Contains rows) (filter test rows)
 all-grouped test rows = All-filter test (Contains rows) rows (All-contains_itself rows)
-
-pub nothing_more : (p : AclRow → Bool) (everyone own : List AclRow) → own ≡ []
-    → list_any p everyone ≡ (list_any p own || list_any p everyone)
-nothing_more p everyone own none = sym (ap (λ l. list_any p l || list_any p everyone) none)
 
 pub swapped : (a b : Bool) → ((false || a) || b) ≡ (b || a)
 swapped a b = or_comm a b

@@ -1,6 +1,6 @@
 //! Rows for one client: what `pattern` rows are by mosquitto's rules with the client's texts in the
 //! place of their marks.
-ghost use Rattle.std.specs.Prelude.{◌≡◌, ◌⊎◌, ◌∷◌, ◌<◌, ◌++◌, ◌||◌, ◌&&◌, not, ℕ, List, [], length};
+ghost use Rattle.std.specs.Prelude.{◌≡◌, ◌⊎◌, ◌∷◌, ◌++◌, ◌||◌, ◌&&◌, ℕ, List, []};
 ghost use Rattle.std.specs.Prelude.{true, false, Option, All, Contains, IfOk, IfErr, IfNone, IfSome, OnOk};
 ghost use Rattle.std.specs.Prelude.{codes, string_bytes};
 ghost use Rattle.std.specs.List.{list_all, list_any};
@@ -18,8 +18,9 @@ ghost use Rattle.mq_witness.specs.Rows.{lent_rows};
 ghost use Rattle.mq_reach.specs.Filled.{IsFillFault, IsFilled, filled_row, is_passed_over};
 
 use crate::fault::ReachFault;
-use mq_acl::{Access, Owner, Row};
+use mq_acl::{Access, Names, Owner, Row};
 use mq_topic::{LevelText, TopicFault, TopicFilter, is_plain};
+use mq_witness::has_short_levels;
 use std::alloc::{AllocError, Global};
 
 /// A client, with a user name or without one.
@@ -27,13 +28,6 @@ use std::alloc::{AllocError, Global};
 pub(crate) struct Client<'a> {
     pub id: &'a str,
     pub user: Option<&'a str>,
-}
-
-/// What stands in the place of `%c` and of `%u`.
-#[derive(Clone, Copy)]
-struct Names<'a> {
-    client: &'a str,
-    user: &'a str,
 }
 
 fn owner_of(alloc: Global, user: Option<&str>) -> Result<Owner, AllocError>
@@ -65,49 +59,24 @@ pub(crate) fn row_of(
     })
 }
 
-// Whether no level is longer than 300 bytes.
-fn has_short_levels(text: &str) -> bool
-    ensures { result ≡ has_short_levels text.now }
-{
-    text.split('/').all(|level| level.len() <= 300)
-}
-
 fn has_user_mark(filter: &str) -> bool
     ensures { result ≡ occurs_in (codes "%u") filter.now }
 {
     filter.contains("%u")
 }
 
-impl<'a> Names<'a> {
-    // What the text begins with, its mark replaced, and what is left of it.
-    fn split_piece(self, text: &'a [u8]) -> Option<(&'a [u8], &'a [u8])>
-        ensures none { IfNone result (text.now ≡ []) }
-        ensures some { IfSome result (λ parts.
-            filled self.entry.client.now self.entry.user.now text.now
-            ≡ parts.0.now ++ filled self.entry.client.now self.entry.user.now parts.1.now) }
-        ensures shorter { IfSome result (λ parts. length parts.1.now < length text.now) }
-    {
-        match text {
-            [] => None,
-            [b'%', b'c', rest @ ..] => Some((self.client.as_bytes(), rest)),
-            [b'%', b'u', rest @ ..] => Some((self.user.as_bytes(), rest)),
-            [_, rest @ ..] => Some((&text[..1], rest)),
-        }
+// The text with the names in the place of its marks.
+fn fill<'a>(alloc: Global, names: Names<'a>, text: &'a str) -> Result<Vec<u8>, AllocError>
+    ensures { IfOk result (λ bytes. bytes.items
+        ≡ filled names.entry.client.now names.entry.user.now text.now) }
+{
+    let mut bytes = Vec::new(alloc);
+    let mut rest = text.as_bytes();
+    while let Some((piece, after)) = names.split_piece(rest) {
+        bytes.extend_from_slice(piece)?;
+        rest = after;
     }
-
-    // The text with these in the place of its marks.
-    fn fill(self, alloc: Global, text: &'a str) -> Result<Vec<u8>, AllocError>
-        ensures { IfOk result (λ bytes. bytes.items
-            ≡ filled self.entry.client.now self.entry.user.now text.now) }
-    {
-        let mut bytes = Vec::new(alloc);
-        let mut rest = text.as_bytes();
-        while let Some((piece, after)) = self.split_piece(rest) {
-            bytes.extend_from_slice(piece)?;
-            rest = after;
-        }
-        Ok(bytes)
-    }
+    Ok(bytes)
 }
 
 fn text_of(bytes: Vec<u8>) -> Result<String, ReachFault>
@@ -182,7 +151,7 @@ impl<'a> Client<'a> {
             IfErr result (λ fault. (fault ≡ ReachFault.Memory) ⊎ ((fault ≡ ReachFault.Pattern)
             × ((is_filter text && has_short_levels text) ≡ false))) }
     {
-        let bytes = self.names().fill(alloc, filter)?;
+        let bytes = fill(alloc, self.names(), filter)?;
         let text = text_of(bytes)?;
         short_filter(alloc, text.as_str())
     }

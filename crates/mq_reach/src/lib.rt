@@ -3,7 +3,6 @@
 //! them. What a client may read is decided by our own rules, or by mosquitto's.
 #![tactic(auto)]
 
-mod by_owner;
 mod connections;
 mod counts;
 mod fault;

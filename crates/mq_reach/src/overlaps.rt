@@ -7,10 +7,9 @@ ghost use Rattle.mq_acl.specs.Rows.{AclRow};
 ghost use Rattle.mq_acl.specs.RowsByOwner.{is_own};
 ghost use Rattle.mq_acl.specs.Views.{row_view};
 ghost use Rattle.mq_witness.specs.Rows.{lent_rows};
-ghost use Rattle.mq_reach.specs.ByOwner.{IsGrouped};
+ghost use Rattle.mq_reach.specs.ByOwner.{AreGrouped};
 
-use crate::by_owner::ByOwner;
-use mq_acl::Row;
+use mq_acl::{ByOwner, Row};
 use mq_witness::may_overlap;
 use std::alloc::{AllocError, Global};
 
@@ -41,48 +40,42 @@ fn add_overlapping<'a>(
 /// Those of the rows for a client of this user name, or without one, that may concern a topic that the row does.
 pub(crate) fn overlapping<'a>(
     alloc: Global,
-    by_owner: &ByOwner<'a>,
+    by_owner: &ByOwner<&'a Row>,
     user: Option<&str>,
     row: &Row,
 ) -> Result<Vec<&'a Row>, AllocError>
-    ensures concerns { IfOk result (λ all. (rows : List AclRow) → IsGrouped rows by_owner.now
+    ensures concerns { IfOk result (λ all. (rows : List AclRow) → AreGrouped rows by_owner.now
         → (client name : List ℕ)
         → concerns client (option_copied user.entry) name (row_view row.now) ≡ true
         → list_any (concerns client (option_copied user.entry) name) (lent_rows all.items)
         ≡ list_any (concerns client (option_copied user.entry) name) rows) }
-    ensures among { IfOk result (λ all. (rows : List AclRow) → IsGrouped rows by_owner.now
+    ensures among { IfOk result (λ all. (rows : List AclRow) → AreGrouped rows by_owner.now
         → All (Contains rows) (lent_rows all.items)) }
 {
     let mut all = Vec::new(alloc);
     add_overlapping(&mut all, row, by_owner.everyone())?;
-    let Some(own) = by_owner.own(user) else {
-        return Ok(all);
-    };
-    add_overlapping(&mut all, row, own)?;
+    add_overlapping(&mut all, row, by_owner.own(user))?;
     Ok(all)
 }
 
 /// Of these alone those that are for the clients of this user name, or without one, and not for all.
 pub(crate) fn own_overlapping<'a>(
     alloc: Global,
-    by_owner: &ByOwner<'a>,
+    by_owner: &ByOwner<&'a Row>,
     user: Option<&str>,
     row: &Row,
 ) -> Result<Vec<&'a Row>, AllocError>
-    ensures concerns { IfOk result (λ all. (rows : List AclRow) → IsGrouped rows by_owner.now
+    ensures concerns { IfOk result (λ all. (rows : List AclRow) → AreGrouped rows by_owner.now
         → (client name : List ℕ)
         → concerns client (option_copied user.entry) name (row_view row.now) ≡ true
         → list_any (concerns client (option_copied user.entry) name) (lent_rows all.items)
         ≡ list_any (concerns client (option_copied user.entry) name)
         (filter (λ r. is_own (option_copied user.entry) r.who) rows)) }
-    ensures among { IfOk result (λ all. (rows : List AclRow) → IsGrouped rows by_owner.now
+    ensures among { IfOk result (λ all. (rows : List AclRow) → AreGrouped rows by_owner.now
         → All (Contains (filter (λ r. is_own (option_copied user.entry) r.who) rows))
         (lent_rows all.items)) }
 {
     let mut all = Vec::new(alloc);
-    let Some(own) = by_owner.own(user) else {
-        return Ok(all);
-    };
-    add_overlapping(&mut all, row, own)?;
+    add_overlapping(&mut all, row, by_owner.own(user))?;
     Ok(all)
 }

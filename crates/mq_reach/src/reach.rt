@@ -9,24 +9,23 @@ ghost use Rattle.mq_acl.specs.Views.{row_views};
 ghost use Rattle.mq_acl.specs.declared.access.Direction.TheVariants.{Reading};
 ghost use Rattle.mq_acl.specs.declared.rules.Rules.TheVariants as spec_rules;
 ghost use Rattle.mq_witness.specs.Limits.{long_line};
-ghost use Rattle.mq_reach.specs.ByOwner.{IsGrouped};
+ghost use Rattle.mq_reach.specs.ByOwner.{AreGrouped};
 ghost use Rattle.mq_reach.specs.Reach.{IsListFault, IsReachFault, Reads, ReadsNone, list_by};
 
-use crate::by_owner::ByOwner;
 use crate::fault::ReachFault;
 use crate::filled::{Client, row_of};
 use crate::granted::{asked_of, granted_topic};
 use crate::overlaps::{overlapping, own_overlapping};
 use crate::patterns::pattern_topic;
-use mq_acl::{Direction, Row, Rules, grants, is_deny, user_by};
+use mq_acl::{ByOwner, Direction, Row, Rules, grants, is_deny, user_by};
 use mq_topic::{LevelText, TopicFilter, TopicName};
 use mq_witness::{Asked, ListFault};
 use std::alloc::{AllocError, Global};
 use std::marker::Model;
 
 // The rows that grant reading, by whom they are for.
-fn granting(alloc: Global, rows: &[Row]) -> Result<ByOwner<'_>, AllocError>
-    ensures { IfOk result (IsGrouped (filter (λ row. grants Reading row.access)
+fn granting(alloc: Global, rows: &[Row]) -> Result<ByOwner<&Row>, AllocError>
+    ensures { IfOk result (AreGrouped (filter (λ row. grants Reading row.access)
         (row_views rows.entry.now))) }
 {
     let mut all = ByOwner::new(alloc);
@@ -39,8 +38,8 @@ fn granting(alloc: Global, rows: &[Row]) -> Result<ByOwner<'_>, AllocError>
 }
 
 // The rows that deny, by whom they are for.
-fn denying(alloc: Global, rows: &[Row]) -> Result<ByOwner<'_>, AllocError>
-    ensures { IfOk result (IsGrouped (filter (λ row. is_deny row.access)
+fn denying(alloc: Global, rows: &[Row]) -> Result<ByOwner<&Row>, AllocError>
+    ensures { IfOk result (AreGrouped (filter (λ row. is_deny row.access)
         (row_views rows.entry.now))) }
 {
     let mut all = ByOwner::new(alloc);
@@ -57,8 +56,8 @@ pub struct Reach<'a> {
     rules: Rules,
     /// Its rows, which are asked about by our own rules alone.
     asked: Asked<'a>,
-    granting: ByOwner<'a>,
-    denying: ByOwner<'a>,
+    granting: ByOwner<&'a Row>,
+    denying: ByOwner<&'a Row>,
 }
 
 // Opaque to callers' proofs: one step, and not one for each field (docs/explanation/gate.md).

@@ -2,9 +2,8 @@
 ghost use Rattle.std.specs.Prelude.{◌≡◌, IfNone, IfSome};
 ghost use Rattle.std.specs.Option.{option_copied};
 ghost use Rattle.mq_topic.specs.Levels.{levels};
-ghost use Rattle.mq_acl.specs.Views.{owner_view, row_view};
+ghost use Rattle.mq_acl.specs.Views.{owner_view};
 ghost use Rattle.mq_rename.specs.Lists.{has_long};
-ghost use Rattle.mq_witness.specs.Limits.{has_short_levels, is_short_row, long_line, short_who};
 ghost use Rattle.mq_regions.specs.Regions.{has_mark, is_mark};
 ghost use Rattle.mq_through.specs.Checks.{AreFit, IsThroughFault, has_topic_mark, is_unfit};
 ghost use Rattle.mq_through.specs.Checks.{is_unfit_right, is_unfit_side, marked_line, unfit_line};
@@ -14,6 +13,7 @@ use mq_acl::{Owner, Row};
 use mq_plan::{Plan, PlanRule};
 use mq_rename::Rename;
 use mq_topic::{LevelText, TopicFilter};
+use mq_witness::long_line;
 
 pub(crate) fn is_mark(text: &str) -> bool
     ensures { result ≡ is_mark text.now }
@@ -31,35 +31,6 @@ fn has_long(text: &str) -> bool
     ensures { result ≡ has_long (levels text.now) }
 {
     text.split('/').any(|level| level.len() > 300)
-}
-
-fn has_short_levels(text: &str) -> bool
-    ensures { result ≡ has_short_levels text.now }
-{
-    text.split('/').all(|level| level.len() <= 300)
-}
-
-fn is_short_owner(owner: &Owner) -> bool
-    ensures { result ≡ short_who (owner_view owner.now) }
-{
-    match owner {
-        Owner::Named(name) => name.len() <= 300,
-        _ => true,
-    }
-}
-
-fn is_short_row(row: &Row) -> bool
-    ensures { result ≡ is_short_row (row_view row.now) }
-{
-    has_short_levels(row.filter.text()) && is_short_owner(&row.owner)
-}
-
-// The line of the first row with a level, or a user name, of more than 300 bytes.
-fn long_line(rows: &[Row]) -> Option<u64>
-    ensures { result ≡ long_line rows.now }
-{
-    let row = rows.iter().find(|row| !is_short_row(row))?;
-    Some(row.line)
 }
 
 fn has_topic_mark(owner: &Owner, filter: &TopicFilter) -> bool

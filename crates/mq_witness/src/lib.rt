@@ -22,6 +22,7 @@ mod witness;
 pub use asked::Asked;
 pub use clients::Clients;
 pub use fault::{LimitFault, ListFault};
+pub use limits::{has_short_levels, long_line};
 pub use patterns::{has_pattern, is_pattern};
 pub use roots::{begins_with_mark, may_overlap};
 pub use witness::Witness;

@@ -23,8 +23,8 @@ pub(crate) struct LongLine {
     pub line: u64,
 }
 
-// Whether no level is longer than 300 bytes.
-fn has_short_levels(text: &str) -> bool
+/// Whether no level is longer than 300 bytes.
+pub fn has_short_levels(text: &str) -> bool
     ensures { result ≡ has_short_levels text.now }
 {
     text.split('/').all(|level| level.len() <= 300)
@@ -46,9 +46,9 @@ fn is_short_row(row: &Row) -> bool
     has_short_levels(row.filter.text()) && is_short_owner(&row.owner)
 }
 
-// The line of the first row with a level, or a user name, of more than 300 bytes. Without one, no name that is made of
-// levels of the rows is longer than 65,535 bytes.
-fn long_line(rows: &[Row]) -> Option<u64>
+/// The line of the first row with a level, or a user name, of more than 300 bytes. Without one, no name that is made of
+/// levels of the rows is longer than 65,535 bytes.
+pub fn long_line(rows: &[Row]) -> Option<u64>
     ensures line { result ≡ long_line rows.now }
     ensures usable { IfNone result (list_all usable (row_views rows.now) ≡ true) }
 {

@@ -6,21 +6,8 @@ use Rattle.mq_acl.specs.Access.{concerns}
 use Rattle.mq_acl.specs.Rows.{AclRow}
 use Rattle.mq_acl.specs.RowsByOwner.{is_own}
 use Rattle.mq_witness.specs.Rows.{lent_rows}
+use Rattle.mq_reach.proofs.OwnerLemmas.{own-are}
 use Rattle.mq_reach.proofs.overlaps.own_overlapping.Goals as goal
-
-pub returns-in_default-clause-concerns : goal.returns-in_default-clause-concerns
-returns-in_default-clause-concerns c = λ rows grouped client name here.
-    let user = option_copied c.args.user in
-    let C : AclRow → _ = concerns client user name in
-    ap (λ l. list_any C (lent_rows l)) c.new-all.ensures.items
-    ∙ ap (list_any C) (c.in_default.ensures ∙ grouped.own user)
-
-pub returns-in_default-clause-among : goal.returns-in_default-clause-among
-returns-in_default-clause-among c = λ rows grouped.
-    let user = option_copied c.args.user in
-    let mine : List AclRow = filter (λ r. is_own user r.who) rows in
-    subst (λ l. All (Contains mine) (lent_rows l)) (sym c.new-all.ensures.items)
-    (All-nil (Contains mine))
 
 pub returns-clause-concerns : goal.returns-clause-concerns
 returns-clause-concerns c = λ rows grouped client name here.
@@ -28,8 +15,7 @@ returns-clause-concerns c = λ rows grouped client name here.
     let C : AclRow → _ = concerns client user name in
     c.in_ok-add_overlapping.ensures.concerns client name user here
     ∙ (λ i. list_any C (lent_rows (c.new-all.ensures.items i))
-    || list_any C ((ap lent_rows c.deref.ensures.value ∙ c.in-Some.ensures
-    ∙ grouped.own user) i))
+    || list_any C ((ap lent_rows c.own.ensures ∙ own-are grouped user) i))
 
 pub returns-clause-among : goal.returns-clause-among
 returns-clause-among c = λ rows grouped.
@@ -38,5 +24,5 @@ returns-clause-among c = λ rows grouped.
     c.in_ok-add_overlapping.ensures.among mine
     (subst (λ l. All (Contains mine) (lent_rows l)) (sym c.new-all.ensures.items)
     (All-nil (Contains mine)))
-    (subst (All (Contains mine)) (sym (ap lent_rows c.deref.ensures.value ∙ c.in-Some.ensures
-    ∙ grouped.own user)) (All-contains_itself mine))
+    (subst (All (Contains mine)) (sym (ap lent_rows c.own.ensures ∙ own-are grouped user))
+    (All-contains_itself mine))

@@ -8,7 +8,7 @@ use Rattle.mq_acl.proofs.acl.Acl.of.Goals as goal
 pub invariant_of-result : goal.invariant_of-result
 invariant_of-result c =
     let given : c.deref.result.now ≡ c.of-order.result.value.items = search rules in
-    let split : IsSplit (row_views c.of-order.result.value.items) c.in_ok-by_access.by_access =
+    let split : IsSplit c.of-order.result.value.items c.in_ok-by_access.by_access =
     search rules in (
       split,
       c.ask_client-asks_client.ensures

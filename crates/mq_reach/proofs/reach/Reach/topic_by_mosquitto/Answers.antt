@@ -16,6 +16,7 @@ use Rattle.mq_witness.proofs.TryLemmas.{none_at, some_at}
 use Rattle.mq_reach.specs.Filled.{IsPassed, IsPatternFault, PassesNone}
 use Rattle.mq_reach.specs.Reach.{IsReachFault, Reads, ReadsNone, list_by}
 use Rattle.mq_reach.proofs.FilledLemmas.{among-pass}
+use Rattle.mq_reach.proofs.OwnerLemmas.{everyones-are}
 use Rattle.mq_reach.proofs.ReachLemmas.{fault-shown, none_then, some_then}
 use Rattle.mq_reach.proofs.RulesLemmas.{all-among, denies_in, grants_in, limit-reach, none-moved}
 use Rattle.mq_reach.proofs.RulesLemmas.{own-among, passed-moved, pattern-reach, patterns_in}
@@ -99,7 +100,7 @@ pattern_topic-requires-clause-denying c =
     all-among (λ r. has_short_levels r.filter) rows (lent_rows c.everyone-deny.result.now)
     c.self.invariant.all_short
     (subst (All (Contains rows))
-    (sym (c.everyone-deny.ensures ∙ c.self.invariant.denies_grouped.all))
+    (sym (ap lent_rows c.everyone-deny.ensures ∙ everyones-are c.self.invariant.denies_grouped))
     (twice-among (λ r. is_everyones r.who) (λ r. is_deny r.access) rows))
 
 pub pattern_topic-requires-clause-granting : goal.pattern_topic-requires-clause-granting
@@ -108,7 +109,7 @@ pattern_topic-requires-clause-granting c =
     all-among (λ r. has_short_levels r.filter) rows (lent_rows c.everyone-grant.result.now)
     c.self.invariant.all_short
     (subst (All (Contains rows))
-    (sym (c.everyone-grant.ensures ∙ c.self.invariant.grants_grouped.all))
+    (sym (ap lent_rows c.everyone-grant.ensures ∙ everyones-are c.self.invariant.grants_grouped))
     (twice-among (λ r. is_everyones r.who) (λ r. grants Reading r.access) rows))
 
 pub returns-clause-none : goal.returns-clause-none
@@ -143,8 +144,8 @@ returns-clause-none c =
     (denying ++ patterns_in (denies_in rows)) (lent_rows c.everyone-grant.result.now)
     (patterns_in (grants_in rows))
     (λ i. lent_rows (c.deref-3.ensures.value i)
-    ++ (c.everyone-deny.ensures ∙ c.self.invariant.denies_grouped.all) i)
-    (c.everyone-grant.ensures ∙ c.self.invariant.grants_grouped.all) second))) h)
+    ++ (ap lent_rows c.everyone-deny.ensures ∙ everyones-are c.self.invariant.denies_grouped) i)
+    (ap lent_rows c.everyone-grant.ensures ∙ everyones-are c.self.invariant.grants_grouped) second))) h)
     c.pattern_topic.ensures.none
 
 pub returns-clause-some : goal.returns-clause-some
@@ -173,8 +174,8 @@ returns-clause-some c =
     (denying ++ patterns_in (denies_in rows)) (lent_rows c.everyone-grant.result.now)
     (patterns_in (grants_in rows)) topic
     (λ i. lent_rows (c.deref-3.ensures.value i)
-    ++ (c.everyone-deny.ensures ∙ c.self.invariant.denies_grouped.all) i)
-    (c.everyone-grant.ensures ∙ c.self.invariant.grants_grouped.all) is))) h)
+    ++ (ap lent_rows c.everyone-deny.ensures ∙ everyones-are c.self.invariant.denies_grouped) i)
+    (ap lent_rows c.everyone-grant.ensures ∙ everyones-are c.self.invariant.grants_grouped) is))) h)
     c.pattern_topic.ensures.some
 
 pub returns-clause-fault : goal.returns-clause-fault
@@ -195,8 +196,8 @@ returns-clause-fault c =
     (lent_rows c.in_ok-denying.denying.items)
     (c.in_ok-denying.ensures.among (denies_in rows) c.self.invariant.denies_grouped)))
     (subst (All (Contains rows))
-    (sym (c.everyone-deny.ensures ∙ c.self.invariant.denies_grouped.all))
+    (sym (ap lent_rows c.everyone-deny.ensures ∙ everyones-are c.self.invariant.denies_grouped))
     (twice-among (λ r. is_everyones r.who) (λ r. is_deny r.access) rows))
     (subst (All (Contains rows))
-    (sym (c.everyone-grant.ensures ∙ c.self.invariant.grants_grouped.all))
+    (sym (ap lent_rows c.everyone-grant.ensures ∙ everyones-are c.self.invariant.grants_grouped))
     (twice-among (λ r. is_everyones r.who) (λ r. grants Reading r.access) rows)))

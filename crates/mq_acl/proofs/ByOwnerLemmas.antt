@@ -1,10 +1,12 @@
--- Rows by what they do, and by whom they are for.
+-- Items by whom they are for.
 use Rattle.std.proofs.Common.{◌≡◌, ℕ, Bool, true, false, ◌&&◌, ◌||◌, if◌then◌else◌, List, []}
 use Rattle.std.proofs.Common.{◌∷◌, Option, Some, None, refl, ap, sym, ◌∙◌}
 use Rattle.std.specs.List.{filter, list_any}
 use Rattle.mq_acl.specs.Access.{applies}
-use Rattle.mq_acl.specs.Rows.{Who, Anonymous, Named, Everyone, AclRow}
+use Rattle.mq_acl.specs.ByOwner.{IsGrouped, everyones, own_items}
+use Rattle.mq_acl.specs.Rows.{Who, Anonymous, Named, Everyone}
 use Rattle.mq_acl.specs.RowsByOwner.{is_own, is_everyones}
+use Rattle.mq_acl.specs.declared.by_owner.ByOwner.{ByOwner}
 
 -- a test of what a filter keeps
 pub any_kept : {X : Type 0} (test keep : X → Bool) (xs : List X)
@@ -46,15 +48,23 @@ one_of_two true false true = refl
 one_of_two true false false = refl
 one_of_two false own test = refl
 
--- of the rows that apply one passes a test just where one for all clients does, or one for this user alone
-pub any_of_groups : (user : Option (List ℕ)) (test : AclRow → Bool) (rows : List AclRow)
-    → (list_any test (filter (λ row. is_everyones row.who) rows)
-    || list_any test (filter (λ row. is_own user row.who) rows))
-    ≡ list_any (λ row. applies user row.who && test row) rows
-any_of_groups user test rows =
-    (λ i. any_kept test (λ row. is_everyones row.who) rows i
-    || any_kept test (λ row. is_own user row.who) rows i)
-    ∙ any_either (λ row. is_everyones row.who && test row) (λ row. is_own user row.who && test row)
-    rows
-    ∙ (λ i. list_any (λ row. (one_of_two (is_everyones row.who) (is_own user row.who) (test row)
-    ∙ ap (λ a. a && test row) (sym (applies_is user row.who))) i) rows)
+-- of the items that apply one passes a test just where one for all clients does, or one for this user alone
+pub any_of_groups : {X : Type 0} (who : X → Who) (user : Option (List ℕ)) (test : X → Bool)
+    (xs : List X) → (list_any test (filter (λ x. is_everyones (who x)) xs)
+    || list_any test (filter (λ x. is_own user (who x)) xs))
+    ≡ list_any (λ x. applies user (who x) && test x) xs
+any_of_groups who user test xs =
+    (λ i. any_kept test (λ x. is_everyones (who x)) xs i
+    || any_kept test (λ x. is_own user (who x)) xs i)
+    ∙ any_either (λ x. is_everyones (who x) && test x) (λ x. is_own user (who x) && test x) xs
+    ∙ (λ i. list_any (λ x. (one_of_two (is_everyones (who x)) (is_own user (who x)) (test x)
+    ∙ ap (λ a. a && test x) (sym (applies_is user (who x)))) i) xs)
+
+-- where it is tried of the items for all clients, and then of those for this user alone
+pub any_by_owner : {X : Type 0} (who : X → Who) (test : X → Bool) (user : Option (List ℕ))
+    (all : List X) (by_owner : ByOwner X) → IsGrouped who all by_owner
+    → (list_any test (everyones by_owner) || list_any test (own_items user by_owner))
+    ≡ list_any (λ x. applies user (who x) && test x) all
+any_by_owner who test user all by_owner grouped =
+    (λ i. list_any test (grouped.everyone i) || list_any test (grouped.own user i))
+    ∙ any_of_groups who user test all
