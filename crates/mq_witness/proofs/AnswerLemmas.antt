@@ -1,28 +1,26 @@
 -- What a question answers of rows.
-use Rattle.std.proofs.Common.{◌≡◌, ℕ, Bool, true, false, cond, not, ◌&&◌, ◌||◌, List, [], ◌∷◌}
-use Rattle.std.proofs.Common.{length, Option, Some, None, codes, bytes_eq, refl, ap, sym, ◌∙◌, subst}
-use Rattle.std.proofs.Common.{Bor, ◌==◌, ◌⊎◌, inl, inr}
-use Rattle.std.specs.List.{list_all, list_any}
-use Rattle.std.proofs.lemmas.Bool.{and_parts, and_from, and_left, not-true}
-use Rattle.std.proofs.lemmas.List.{map-id}
+use Rattle.std.proofs.Common.{◌≡◌, ℕ, Bool, true, false, cond, not, ◌&&◌, List, [], ◌∷◌, Option}
+use Rattle.std.proofs.Common.{Some, None, codes, bytes_eq, refl, ap, sym, ◌∙◌, subst, Bor, ◌⊎◌, inl}
+use Rattle.std.proofs.Common.{inr, arith}
+use Rattle.std.specs.List.{list_all}
+use Rattle.std.proofs.lemmas.Bool.{and_from, and_parts, cond_both, false_from_ne_true, not-true}
 use Rattle.mq_topic.proofs.ByteLemmas.{text_is, text_itself}
-use Rattle.mq_topic.specs.Levels.{levels, levels_left}
-use Rattle.mq_topic.specs.Matching.{level_matches, levels_match_by}
+use Rattle.mq_topic.specs.Levels.{levels}
+use Rattle.mq_topic.specs.Matching.{level_matches}
 use Rattle.mq_topic.specs.Texts.{is_name}
 use Rattle.mq_acl.specs.Access.{applies, begins_with_dollar, is_user}
 use Rattle.mq_acl.specs.Rows.{AclRow, Who}
 use Rattle.mq_acl.specs.Rows as rows
 use Rattle.mq_cover.specs.Names.{can_be_level}
-use Rattle.mq_cover.specs.Remainders.{covers, fits, hits, mark_passes, passes, remainders_fit}
+use Rattle.mq_cover.specs.Remainders.{hits, mark_passes, passes, remainders_fit}
 use Rattle.mq_cover.specs.declared.remainder.Remainder.{Remainder}
-use Rattle.mq_witness.specs.Answers.{Asks, HitsOther, HitsUser, IsFoundBy, Misses}
-use Rattle.mq_witness.specs.Answers.{MissesOthers, MissesUser}
+use Rattle.mq_witness.specs.Answers.{Asks, HitsOther, HitsUser, IsFoundBy, Misses, MissesOthers}
+use Rattle.mq_witness.specs.Answers.{MissesUser}
 use Rattle.mq_witness.specs.Clients.{can_be_id, is_of, name_passes}
-use Rattle.mq_witness.specs.Decided.{concerns_in, decides_in}
+use Rattle.mq_witness.specs.Decided.{decides_in}
 use Rattle.mq_witness.specs.Fresh.{fresh_pass, is_literal}
 use Rattle.mq_witness.specs.Literals.{is_named}
-use Rattle.mq_witness.specs.Ready.{AreReady, IsReady, all_listed, clients_fit, is_listed}
-use Rattle.mq_witness.specs.Ready.{stand_in}
+use Rattle.mq_witness.specs.Ready.{AreReady, IsReady, all_listed, clients_fit, is_listed, stand_in}
 use Rattle.mq_witness.specs.Roots.{alike, marks_of, same, NoneConcerned}
 use Rattle.mq_witness.specs.Texts.{level_of}
 use Rattle.mq_witness.specs.declared.clients.Clients.{Clients}
@@ -32,25 +30,20 @@ use Rattle.mq_witness.specs.declared.fresh.Fresh.{Fresh}
 use Rattle.mq_witness.specs.declared.literals.Literals.{Literals}
 use Rattle.mq_witness.specs.declared.question.Found.{Found}
 use Rattle.mq_witness.specs.declared.question.Question.{Question}
-use Rattle.mq_witness.proofs.MoveLemmas.{match_same}
+use Rattle.mq_witness.proofs.MoveLemmas.{hits_same}
+use Rattle.mq_witness.proofs.TestLemmas.{all_by}
 use Rattle.mq_witness.proofs.NameLemmas.{name_is, name_suits}
 use Rattle.mq_witness.proofs.OtherLemmas.{others_none}
-use Rattle.mq_witness.proofs.TriedLemmas.{fixed_none}
+use Rattle.mq_witness.proofs.TriedLemmas.{fixed_none, level_known}
 
 -- ---- an id that can't be a level
 pub same_user : (user : Option (List ℕ)) (l : List ℕ) → can_be_level l ≡ true
     → is_user l user ≡ is_user l (level_of user)
 same_user None l h = refl
-same_user (Some u) l h = at (can_be_level u) refl
-  where
-    differs : (b : Bool) → bytes_eq l u ≡ b → can_be_level u ≡ false → bytes_eq l u ≡ false
-    differs true e k = absurd (let n : true ≡ false = sym h ∙ ap can_be_level (text_is l u e) ∙ k in
-        cc)
-    differs false e k = e
-
-    at : (b : Bool) → can_be_level u ≡ b → bytes_eq l u ≡ is_user l (cond b (Some u) None)
-    at true e = refl
-    at false e = differs (bytes_eq l u) refl e
+same_user (Some u) l h =
+    cond_both (can_be_level u) _ _ (λ m. bytes_eq l u ≡ is_user l m) (λ e. refl)
+    (λ e. false_from_ne_true _ (λ k.
+    let n : true ≡ false = sym h ∙ ap can_be_level (text_is l u k) ∙ e in cc))
 
 same_passes : (pattern : Bool) (client : List ℕ) (user : Option (List ℕ)) (w l : List ℕ)
     → can_be_level l ≡ true → passes pattern (marks_of client user) w l
@@ -59,57 +52,18 @@ same_passes pattern client user w l h =
     ap (λ b. cond (pattern && bytes_eq w (codes "%c")) (bytes_eq l client)
     (cond (pattern && bytes_eq w (codes "%u")) b (level_matches w l))) (same_user user l h)
 
--- what passes as a user name passes as a level
-level_known : (p : List ℕ → Bool) (user : Option (List ℕ)) → mark_passes p user ≡ true
-    → mark_passes p (level_of user) ≡ true
-level_known p None h = h
-level_known p (Some u) h = at (can_be_level u)
-  where
-    at : (b : Bool) → mark_passes p (cond b (Some u) None) ≡ true
-    at true = h
-    at false = refl
-
--- any levels fit the test that all pass
-pub any_fits : (ws : List (List ℕ)) → fits (λ w. true) ws ≡ true
-any_fits [] = refl
-any_fits (w ∷ ws) = rw (any_fits ws)
-    (or_true (bytes_eq w (codes "+") || (bytes_eq w (codes "#") && (length ws == 0))))
-  where
-    or_true : (b : Bool) → ((b || true) && true) ≡ true
-    or_true true = refl
-    or_true false = refl
-
-module _ (client : List ℕ) (user : Option (List ℕ)) (ls : List (List ℕ))
-    (can : list_all can_be_level ls ≡ true) where
-  level_covers : (r : Remainder) → covers (marks_of client user) ls r
-      ≡ covers (marks_of client (level_of user)) ls r
-  level_covers r =
-      match_same (passes r.pattern (marks_of client user))
-      (passes r.pattern (marks_of client (level_of user))) (λ l. l) (λ w. true) can_be_level
-      (λ w l e k. same_passes r.pattern client user w l k) (levels_left r.rest) ls
-      (any_fits (levels_left r.rest)) can
-      ∙ ap (levels_match_by (passes r.pattern (marks_of client (level_of user)))
-      (levels_left r.rest)) (map-id ls)
-
-  level_all : (rs : List Remainder) → list_all (covers (marks_of client user) ls) rs
-      ≡ list_all (covers (marks_of client (level_of user)) ls) rs
-  level_all [] = refl
-  level_all (r ∷ rs) = (λ i. level_covers r i && level_all rs i)
-
-  level_any : (rs : List Remainder) → list_any (covers (marks_of client user) ls) rs
-      ≡ list_any (covers (marks_of client (level_of user)) ls) rs
-  level_any [] = refl
-  level_any (r ∷ rs) = (λ i. level_covers r i || level_any rs i)
-
-  -- whether a name is hit depends on a user name only as a level, if it can be one
-  level_hits : (must cover : List Remainder) → hits (marks_of client user) ls must cover
-      ≡ hits (marks_of client (level_of user)) ls must cover
-  level_hits must cover = (λ i. level_all must i && not (level_any cover i))
+-- whether a name is hit depends on a user name only as a level, if it can be one
+level_hits : (client : List ℕ) (user : Option (List ℕ)) (ls : List (List ℕ))
+    → list_all can_be_level ls ≡ true → (must cover : List Remainder)
+    → hits (marks_of client user) ls must cover
+    ≡ hits (marks_of client (level_of user)) ls must cover
+level_hits client user ls can =
+    hits_same can_be_level (marks_of client user) (marks_of client (level_of user))
+    (λ pattern. same_passes pattern client user) ls can
 
 -- ---- whom rows apply to
 same_self : (b : Bool) → same b b ≡ true
-same_self true = refl
-same_self false = refl
+same_self b = grind arith
 
 pub alike_self : (user : Option (List ℕ)) (all : List AclRow) → alike user user all ≡ true
 alike_self user [] = refl
@@ -119,21 +73,13 @@ alike_self user (row ∷ all) = rw (same_self (applies user row.who)) (alike_sel
 unlisted_alike : (users : Literals) (u v : List ℕ) → is_named u users ≡ false
     → is_named v users ≡ false → (all : List AclRow) → all_listed users all ≡ true
     → alike (Some u) (Some v) all ≡ true
-unlisted_alike users u v e g [] h = refl
-unlisted_alike users u v e g (row ∷ all) h =
-    let parts = and_parts (is_listed users row.who) (all_listed users all) h in
-    and_from (same (applies (Some u) row.who) (applies (Some v) row.who))
-    (alike (Some u) (Some v) all) (one row.who parts.0)
-    (unlisted_alike users u v e g all parts.1)
+unlisted_alike users u v e g all = all_by (λ row. is_listed users row.who)
+    (λ row. same (applies (Some u) row.who) (applies (Some v) row.who)) (λ row. one row.who) all
   where
     no : (t n : List ℕ) → is_named t users ≡ false → is_named n users ≡ true
         → bytes_eq t n ≡ false
-    no t n e h = at (bytes_eq t n) refl
-      where
-        at : (b : Bool) → bytes_eq t n ≡ b → b ≡ false
-        at true k = absurd (let m : true ≡ false = sym h
-            ∙ ap (λ x. is_named x users) (sym (text_is t n k)) ∙ e in cc)
-        at false k = refl
+    no t n e h = false_from_ne_true _ (λ k. let m : true ≡ false = sym h
+        ∙ ap (λ x. is_named x users) (sym (text_is t n k)) ∙ e in cc)
 
     one : (who : Who) → is_listed users who ≡ true
         → same (applies (Some u) who) (applies (Some v) who) ≡ true
@@ -150,19 +96,12 @@ alike_all f users Anonymous all (Some u) n h e = absurd (let k : false ≡ true 
 alike_all f users (Named name) all None n h e = absurd (let k : false ≡ true = e in cc)
 alike_all f users (Named name) all (Some u) n h e =
     ap (λ t. alike (Some t) (Some name.now) all)
-    (text_is u name.now (and_parts (bytes_eq u name.now) (can_be_id u) e).0)
-    ∙ alike_self (Some name.now) all
+    (text_is u name.now (and_parts _ _ e).0) ∙ alike_self (Some name.now) all
 alike_all f users Others all None n h e = absurd (let k : false ≡ true = e in cc)
 alike_all f users Others all (Some u) n h e =
-    unlisted_alike users u f.user.now
-    (not-true (is_named u users) (and_parts (can_be_id u) (not (is_named u users)) e).1) n all h
+    unlisted_alike users u f.user.now (not-true _ (and_parts _ _ e).1) n all h
 
 -- ---- a question that is posed of rows
-pub record IsPosed (front : Bool) (both : BothFresh) (users : Literals) (clients : Clients)
-    (dollar : Bool) (must cover : List AclRow) (q : Question) : Type 0 where
-  pub ready : AreReady front both users clients must cover
-  pub asks : Asks front both (stand_in both.plain clients) dollar must cover q
-
 -- there is no such name for any client that is asked about
 abbrev pub NoneFor : Bool → Literals → Clients → Bool → (must cover : List AclRow) → Type 0
 NoneFor front users clients dollar must cover =
@@ -177,23 +116,19 @@ pub none_concerned : (front : Bool) (both : BothFresh) (users : Literals) (clien
     → NoneFor front users clients dollar must cover
 none_concerned front both users clients dollar must cover ready none client name user id of valid
     kind =
-    and_left (list_all (concerns_in front client user name) must)
-    (not (list_any (concerns_in front client user name) cover))
-    (none client name user
-    (alike_all both.plain users clients must user ready.plain.unlisted ready.plain.must_listed of)
-    kind)
+    grind (arith, alike_all)
 
 -- what holds with either ids holds with those that a question has
-of_either : (P : Fresh → Type 0) (f a b : Fresh) → (f ≡ a) ⊎ (f ≡ b) → P a → P b → P f
+pub of_either : (P : Fresh → Type 0) (f a b : Fresh) → (f ≡ a) ⊎ (f ≡ b) → P a → P b → P f
 of_either P f a b (inl e) pa pb = subst P (sym e) pa
 of_either P f a b (inr e) pa pb = subst P (sym e) pb
 
-module _ (front : Bool) (both : BothFresh) (users : Literals) (clients : Clients) (dollar : Bool)
-    (must cover : List AclRow) (q : Question)
-    (posed : IsPosed front both users clients dollar must cover q) where
+module _ {front : Bool} {both : BothFresh} {users : Literals} {clients : Clients} {dollar : Bool}
+    {must cover : List AclRow} {q : Question} (are : AreReady front both users clients must cover)
+    (asks : Asks front both (stand_in both.plain clients) dollar must cover q) where
   ready : IsReady q.fresh users clients must cover
   ready = of_either (λ f. IsReady f users clients must cover) q.fresh both.plain both.dollar
-      posed.asks.fresh posed.ready.plain posed.ready.dollar
+      asks.fresh are.plain are.dollar
 
   -- what is decided of rows is what the question hits
   decides_is : (client name : List ℕ) (user : Option (List ℕ))
@@ -201,23 +136,12 @@ module _ (front : Bool) (both : BothFresh) (users : Literals) (clients : Clients
       → begins_with_dollar name ≡ dollar
       → decides_in front client user name must cover
       ≡ hits (marks_of client (level_of user)) (levels name) q.must.items q.cover.items
-  decides_is client name user of valid kind =
-      sym (posed.asks.decides client name user
-      (alike_all both.plain users clients must user posed.ready.plain.unlisted
-      posed.ready.plain.must_listed of)
-      (alike_all both.plain users clients cover user posed.ready.plain.unlisted
-      posed.ready.plain.cover_listed of)
-      kind)
-      ∙ level_hits client user (levels name) (name_is name valid).can q.must.items q.cover.items
+  decides_is client name user of valid kind = grind (arith, alike_all, level_hits, name_is)
 
   missed : ((client : List ℕ) (user : Option (List ℕ)) → can_be_id client ≡ true
       → is_of (λ u. is_named u users) clients user ≡ true → Misses q client (level_of user))
       → NoneFor front users clients dollar must cover
-  missed misses client name user id of valid kind =
-      let is = name_is name valid in
-      decides_is client name user of valid kind
-      ∙ misses client user id of (levels name)
-      (name_suits name q.dollar is.some (kind ∙ sym posed.asks.kind)) is.few
+  missed misses client name user id of valid kind = grind (arith, name_is, decides_is, name_suits)
 
   hit : (user : Option (List ℕ)) (found : Found)
       → is_of (λ u. is_named u users) clients user ≡ true → HitsUser q user found
@@ -229,15 +153,15 @@ module _ (front : Bool) (both : BothFresh) (users : Literals) (clients : Clients
     client_fits = h.client_fits;
     user_fits = ap (is_of (λ u. is_named u users) clients) h.user_is ∙ of;
     valid = h.hits_name.valid;
-    kind = h.hits_name.kind ∙ posed.asks.kind;
+    kind = h.hits_name.kind ∙ asks.kind;
     decided = ap (λ u. decides_in front found.client.now u found.name must cover) h.user_is
         ∙ decides_is found.client.now found.name user of h.hits_name.valid
-        (h.hits_name.kind ∙ posed.asks.kind)
+        (h.hits_name.kind ∙ asks.kind)
         ∙ h.hits_name.hit;
     known = λ p plain begun fit name.
         let all = of_either (λ f. fresh_pass p f ≡ true) q.fresh both.plain both.dollar
-        posed.asks.fresh plain begun in
-        let left = posed.asks.fit p fit in
+        asks.fresh plain begun in
+        let left = asks.fit p fit in
         let known = user_known p all left name in
         let level = level_known p user known in
         let client = h.client_known p all left level in
@@ -254,19 +178,11 @@ module _ (front : Bool) (both : BothFresh) (users : Literals) (clients : Clients
       → (client : List ℕ) → can_be_id client ≡ true
       → Misses q client (level_of user)
   fixed_misses user fit misses client id =
-      fixed_none q.fresh q.dollar q.must.items q.cover.items q.can_ask (level_of user) fit client
-      id
-      misses
+      fixed_none q.can_ask (level_of user) fit client id misses
 
   pub anonymous_none : clients ≡ Anonymous → MissesUser q None
       → NoneFor front users clients dollar must cover
-  anonymous_none e misses = missed (λ client user id of. at user client id
-      (sym (ap (λ k. is_of (λ u. is_named u users) k user) e) ∙ of))
-    where
-      at : (user : Option (List ℕ)) (client : List ℕ) → can_be_id client ≡ true
-          → is_of (λ u. is_named u users) Anonymous user ≡ true → Misses q client (level_of user)
-      at None client id of = fixed_misses None refl misses client id
-      at (Some u) client id of = absurd (let n : false ≡ true = of in cc)
+  anonymous_none e misses = grind (arith, missed, fixed_misses)
 
   pub anonymous_hit : clients ≡ Anonymous → (found : Found) → HitsUser q None found
       → IsFoundBy front dollar both (λ u. is_named u users) clients must cover found
@@ -288,7 +204,7 @@ module _ (front : Bool) (both : BothFresh) (users : Literals) (clients : Clients
       at None client id of = absurd (let n : false ≡ true = of in cc)
       at (Some u) client id of =
           subst (λ t. Misses q client (level_of (Some t)))
-          (sym (text_is u name.now (and_parts (bytes_eq u name.now) (can_be_id u) of).0))
+          (sym (text_is u name.now (and_parts _ _ of).0))
           (fixed_misses (Some name.now) fit misses client id)
 
   pub named_hit : (name : Bor (List ℕ)) → clients ≡ Named name → can_be_id name.now ≡ true
@@ -296,7 +212,7 @@ module _ (front : Bool) (both : BothFresh) (users : Literals) (clients : Clients
       → IsFoundBy front dollar both (λ u. is_named u users) clients must cover found
   named_hit name e id found h =
       hit (Some name.now) found (ap (λ k. is_of (λ u. is_named u users) k (Some name.now)) e
-      ∙ and_from (bytes_eq name.now name.now) (can_be_id name.now) (text_itself name.now) id) h
+      ∙ and_from _ _ (text_itself name.now) id) h
       (λ p fresh fit known. sym (ap (name_passes p) e) ∙ known)
 
   -- ---- all user names that aren't listed
@@ -316,5 +232,5 @@ module _ (front : Bool) (both : BothFresh) (users : Literals) (clients : Clients
       → IsFoundBy front dollar both (λ u. is_named u users) clients must cover found
   others_hit e found h =
       hit (Some h.user) found (ap (λ k. is_of (λ u. is_named u users) k (Some h.user)) e
-      ∙ and_from (can_be_id h.user) (not (is_named h.user users)) h.user_fits
-      (ap not h.unlisted)) h.hits_user (λ p fresh fit name. h.user_known p fresh fit)
+      ∙ and_from _ _ h.user_fits (ap not h.unlisted)) h.hits_user
+      (λ p fresh fit name. h.user_known p fresh fit)

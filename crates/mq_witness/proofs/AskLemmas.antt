@@ -1,12 +1,10 @@
 -- The names that a question finds.
-use Rattle.std.proofs.Common.{◌≡◌, ℕ, Bool, true, false, ◌&&◌, List, refl, ap, sym}
-use Rattle.std.proofs.Common.{◌∙◌}
+use Rattle.std.proofs.Common.{◌&&◌, ◌≡◌, ℕ, Bool, true, List, ap, sym, ◌∙◌, arith}
 use Rattle.std.specs.List.{list_all}
 use Rattle.mq_topic.specs.Levels.{levels}
 use Rattle.mq_topic.specs.Texts.{is_memory, is_name}
 use Rattle.mq_topic.specs.declared.fault.TopicFault.{TopicFault}
-use Rattle.mq_topic.specs.declared.fault.TopicFault.TheVariants.{Empty, TooLong, Nul, Wildcard}
-use Rattle.mq_topic.specs.declared.fault.TopicFault.TheVariants.{Levels, Share, Memory}
+use Rattle.mq_topic.specs.declared.fault.TopicFault.TheVariants.{Memory}
 use Rattle.mq_cover.specs.Names.{is_choice, start_of, suits}
 use Rattle.mq_cover.specs.Choices.{known_pass}
 use Rattle.mq_cover.specs.Remainders.{MarkLevels, hits, marks_pass, remainders_fit, IsFound}
@@ -20,11 +18,12 @@ use Rattle.mq_witness.specs.declared.question.Question.{Question}
 use Rattle.mq_witness.proofs.FreshMoves.{literal_is_choice}
 use Rattle.mq_witness.proofs.LiteralLemmas.{all_fit_mono}
 use Rattle.mq_witness.proofs.NameLemmas.{joined_is_name, levels_of_joined, some_name, suits_dollar}
+use Rattle.std.proofs.lemmas.Bool.{and_parts, and_from}
 
 -- filters that name no text that stands for others name no level that does
-pub choices_fit : (f : Fresh) (rs lent : List Remainder) → lent ≡ rs
+pub choices_fit : (f : Fresh) {rs lent : List Remainder} → lent ≡ rs
     → remainders_fit (is_literal f) rs ≡ true → remainders_fit (is_choice f.others) lent ≡ true
-choices_fit f rs lent e h = ap (remainders_fit (is_choice f.others)) e
+choices_fit f {rs} e h = ap (remainders_fit (is_choice f.others)) e
     ∙ all_fit_mono (is_literal f) (is_choice f.others) rs (literal_is_choice f) h
 
 -- what a walk for a question finds, and the text of its name
@@ -34,10 +33,10 @@ pub record IsWalk (q : Question) (start : Start) (must cover : List Remainder) :
   pub cover_is : cover ≡ q.cover.items
 
 -- the name on a path that is found is valid
-pub found_is_name : (q : Question) (start : Start) (must cover : List Remainder)
-    (marks : MarkLevels) (ls : List (List ℕ)) → IsWalk q start must cover
+pub found_is_name : (q : Question) {start : Start} {must cover : List Remainder}
+    {marks : MarkLevels} {ls : List (List ℕ)} → IsWalk q start must cover
     → IsFound start 200 marks must cover ls → is_name (join_levels ls) ≡ true
-found_is_name q start must cover marks ls w h =
+found_is_name q {ls = ls} w h =
     joined_is_name ls q.dollar h.valid h.few
     (sym (ap (λ s. suits s ls) w.start_is) ∙ h.suitable)
 
@@ -51,25 +50,20 @@ IsKnown q must marks ls = (p : List ℕ → Bool)
 all_known : (p : List ℕ → Bool) (f : Fresh) (marks : MarkLevels) → fresh_pass p f ≡ true
     → marks_pass p marks ≡ true → known_pass p marks f.others ≡ true
 all_known p f marks h m =
-    at (p f.others.plain.now) (p f.others.dollar.now) (p f.client.now) (p f.user.now)
-    (marks_pass p marks) h m
-  where
-    at : (a b d e g : Bool) → (a && b && d && e) ≡ true → g ≡ true → (a && b && g) ≡ true
-    at true true d e g h i = i
-    at false b d e g h i = absurd (let n : false ≡ true = h in cc)
-    at true false d e g h i = absurd (let n : false ≡ true = h in cc)
+    let three = and_parts (p f.others.plain.now && p f.others.dollar.now && p f.client.now) _ h in
+    and_from _ _ (and_parts (p f.others.plain.now && p f.others.dollar.now) _ three.0).0 m
 
 -- and the question hits it
-pub found_hits : (q : Question) (start : Start) (must cover : List Remainder) (marks : MarkLevels)
-    (ls : List (List ℕ)) (name : List ℕ) → IsWalk q start must cover
+pub found_hits : (q : Question) {start : Start} {must cover : List Remainder} {marks : MarkLevels}
+    {ls : List (List ℕ)} {name : List ℕ} → IsWalk q start must cover
     → name ≡ join_levels ls → IsFound start 200 marks must cover ls
     → IsKnown q must marks ls → IsHit q marks name
-found_hits q start must cover marks ls name w e h known =
+found_hits q {marks = marks} {ls} {name} w e h known =
     let suit = sym (ap (λ s. suits s ls) w.start_is) ∙ h.suitable in
     let same = ap levels e ∙ levels_of_joined ls q.dollar h.valid suit in
     let fit = ap (suits (start_of q.dollar)) same ∙ suit in
     record {
-      valid = ap is_name e ∙ found_is_name q start must cover marks ls w h;
+      valid = ap is_name e ∙ found_is_name q w h;
       kind = suits_dollar name q.dollar (some_name name q.dollar fit) fit;
       hit = ap (λ k. hits marks k q.must.items q.cover.items) same
           ∙ (λ i. hits marks ls (sym w.must_is i) (sym w.cover_is i)) ∙ h.hit;
@@ -80,10 +74,4 @@ found_hits q start must cover marks ls name w e h known =
 
 -- a fault of which no text can be shown is want of memory
 pub memory_is : (fault : TopicFault) → is_memory fault ≡ true → fault ≡ Memory
-memory_is Empty e = absurd (let f : false ≡ true = e in cc)
-memory_is TooLong e = absurd (let f : false ≡ true = e in cc)
-memory_is Nul e = absurd (let f : false ≡ true = e in cc)
-memory_is Wildcard e = absurd (let f : false ≡ true = e in cc)
-memory_is Levels e = absurd (let f : false ≡ true = e in cc)
-memory_is Share e = absurd (let f : false ≡ true = e in cc)
-memory_is Memory e = refl
+memory_is fault e = grind arith

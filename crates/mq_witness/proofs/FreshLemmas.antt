@@ -1,25 +1,21 @@
 -- Texts that are made to be named by no row.
-use Rattle.std.proofs.Common.{◌≡◌, ℕ, ◌==◌, Bool, true, false, not, ◌&&◌, ◌||◌, List, ◌++◌}
-use Rattle.std.proofs.Common.{length, codes, bytes_eq, refl, ap, sym, ◌∙◌, arith, ◌+◌, ◌<◌, ◌≤◌}
-use Rattle.std.proofs.Common.{replicate, zero, suc, length-append, append_assoc, subst}
-use Rattle.std.proofs.Common.{string_bytes, ◌∷◌, []}
-use Rattle.std.specs.Prelude.{nat_le}
+use Rattle.std.proofs.Common.{◌≡◌, ℕ, ◌==◌, Bool, true, false, not, ◌&&◌, ◌||◌, List, ◌++◌, length}
+use Rattle.std.proofs.Common.{codes, bytes_eq, refl, ap, sym, ◌∙◌, arith, ◌+◌, ◌<◌, ◌≤◌, replicate}
+use Rattle.std.proofs.Common.{zero, suc, length-append, append_assoc, subst, string_bytes, ◌∷◌, []}
 use Rattle.std.specs.List.{list_any}
 use Rattle.std.proofs.lemmas.List.{length-replicate, replicate_more}
 use Rattle.std.proofs.lemmas.List.Folds.{list_any-append}
-use Rattle.std.proofs.lemmas.Bool.{and_parts, not-true, leb-true, le-leb}
+use Rattle.std.proofs.lemmas.Bool.{false_from_ne_true, not-true, leb-true, le-leb}
 use Rattle.std.proofs.Math.Dec.{eqb-suc-zero}
-use Rattle.mq_topic.proofs.ByteLemmas.{text_is}
-use Rattle.mq_topic.specs.Texts.{contains_byte, is_plain}
+use Rattle.mq_topic.proofs.ByteLemmas.{text_is, text_itself}
+use Rattle.mq_topic.specs.Texts.{contains_byte}
 use Rattle.mq_acl.specs.Access.{begins_with_dollar}
 use Rattle.mq_cover.specs.Names.{is_name_level, is_choice}
-use Rattle.mq_witness.specs.Fresh.{is_literal, AreFresh}
-use Rattle.mq_witness.specs.FreshTexts.{is_base, AreNew, AreShort, IsLong, IsNew, IsPadded}
-use Rattle.mq_witness.specs.FreshTexts.{IsSeen, client_base, user_base}
-use Rattle.mq_witness.specs.FreshTexts.{fresh_texts}
+use Rattle.mq_witness.specs.Fresh.{is_literal, AreFresh, fresh_pass}
+use Rattle.mq_witness.specs.FreshTexts.{is_base, AreNew, AreShort, IsLong, IsNew, IsPadded, IsSeen}
+use Rattle.mq_witness.specs.FreshTexts.{client_base, user_base, fresh_texts}
 use Rattle.mq_witness.specs.declared.fresh.Fresh.{Fresh}
 use Rattle.mq_witness.specs.declared.texts.FreshTexts.{FreshTexts}
-use Rattle.mq_cover.proofs.TextLemmas.{or_cases}
 
 many_lack : (b n : ℕ) → (120 == b) ≡ false → contains_byte b (replicate n 120) ≡ false
 many_lack b zero h = refl
@@ -27,37 +23,14 @@ many_lack b (suc n) h = (λ i. h i || many_lack b n h i)
 
 made_lacks : (b : ℕ) (base text : List ℕ) → (120 == b) ≡ false → not (contains_byte b base) ≡ true
     → IsPadded base text → not (contains_byte b text) ≡ true
-made_lacks b base text n h m =
-    ap (λ t. not (contains_byte b t)) m.is
-    ∙ ap not (list_any-append (λ c. c == b) base (replicate m.count 120))
-    ∙ ap (λ k. not (contains_byte b base || k)) (many_lack b m.count n)
-    ∙ ap (λ k. not (k || false)) (not-true (contains_byte b base) h)
+made_lacks b base text n h m = grind (arith, list_any-append, many_lack)
 
 made_level : (base text : List ℕ) → is_base base ≡ true → IsPadded base text
     → is_name_level text ≡ true
 made_level base text h m =
-    let e2 = (and_parts (is_plain base && not (contains_byte 0 base) && not (contains_byte 47 base))
-    (nat_le (length base) 20) h).0 in
-    let e1 = (and_parts (is_plain base && not (contains_byte 0 base)) (not (contains_byte 47 base))
-    e2).0 in
-    let plain = (and_parts (is_plain base) (not (contains_byte 0 base)) e1).0 in
-    let short = leb-true (length base) 20
-    (and_parts (is_plain base && not (contains_byte 0 base) && not (contains_byte 47 base))
-    (nat_le (length base) 20) h).1 in
-    let few = m.few in
     let size = ap length m.is ∙ length-append base (replicate m.count 120)
     ∙ ap (λ n. length base + n) (length-replicate m.count 120) in
-    rw (
-      made_lacks 43 base text refl
-          (and_parts (not (contains_byte 43 base)) (not (contains_byte 35 base)) plain).0 m,
-      made_lacks 35 base text refl
-          (and_parts (not (contains_byte 43 base)) (not (contains_byte 35 base)) plain).1 m,
-      made_lacks 0 base text refl (and_parts (is_plain base) (not (contains_byte 0 base)) e1).1 m,
-      made_lacks 47 base text refl
-          (and_parts (is_plain base && not (contains_byte 0 base)) (not (contains_byte 47 base))
-          e2).1 m,
-    )
-    (le-leb (length text) 321 (omega (arith, size, short, few)))
+    grind (arith, made_lacks, leb-true, le-leb, size)
 
 -- texts of bases that differ at the front differ
 made_apart : (a b s t : List ℕ) → ((x y : List ℕ) → bytes_eq (a ++ x) (b ++ y) ≡ false)
@@ -106,48 +79,23 @@ module _ (d : Bool) (f : Fresh) (made : AreMade d f) where
 
 -- an id that is made of a base that is neither empty nor that of a level
 record IsIdBase (base : List ℕ) : Type 0 where
-  pub front : ℕ
-  pub rest : List ℕ
-  pub is : base ≡ front ∷ rest
   pub fits : is_base base ≡ true
   pub plain : (x y : List ℕ) → bytes_eq (base ++ x) (codes "x" ++ y) ≡ false
   pub dollar : (x y : List ℕ) → bytes_eq (base ++ x) (codes "$x" ++ y) ≡ false
+  pub some : (x : List ℕ) → (length (base ++ x) == 0) ≡ false
+
+id_base : (b : ℕ) (rest : List ℕ) → is_base (b ∷ rest) ≡ true
+    → ((x y : List ℕ) → bytes_eq (b ∷ rest ++ x) (codes "x" ++ y) ≡ false)
+    → ((x y : List ℕ) → bytes_eq (b ∷ rest ++ x) (codes "$x" ++ y) ≡ false) → IsIdBase (b ∷ rest)
+id_base b rest fits plain dollar = grind (arith, eqb-suc-zero)
 
 client_is_base : (d : Bool) → IsIdBase (client_base d)
-client_is_base true = record {
-  front = 36;
-  rest = codes "client";
-  is = refl;
-  fits = refl;
-  plain = λ x y. refl;
-  dollar = λ x y. refl;
-}
-client_is_base false = record {
-  front = 99;
-  rest = codes "lient";
-  is = refl;
-  fits = refl;
-  plain = λ x y. refl;
-  dollar = λ x y. refl;
-}
+client_is_base true = id_base 36 (codes "client") refl (λ x y. refl) (λ x y. refl)
+client_is_base false = id_base 99 (codes "lient") refl (λ x y. refl) (λ x y. refl)
 
 user_is_base : (d : Bool) → IsIdBase (user_base d)
-user_is_base true = record {
-  front = 36;
-  rest = codes "user";
-  is = refl;
-  fits = refl;
-  plain = λ x y. refl;
-  dollar = λ x y. refl;
-}
-user_is_base false = record {
-  front = 117;
-  rest = codes "ser";
-  is = refl;
-  fits = refl;
-  plain = λ x y. refl;
-  dollar = λ x y. refl;
-}
+user_is_base true = id_base 36 (codes "user") refl (λ x y. refl) (λ x y. refl)
+user_is_base false = id_base 117 (codes "ser") refl (λ x y. refl) (λ x y. refl)
 
 bases_apart : (d : Bool) (x y : List ℕ) → bytes_eq (user_base d ++ x) (client_base d ++ y) ≡ false
 bases_apart true x y = refl
@@ -166,10 +114,7 @@ user_begins false text m = ap begins_with_dollar m.is
 
 made_some : (base text : List ℕ) → IsIdBase base → IsPadded base text
     → (length text == 0) ≡ false
-made_some base text b m =
-    ap (λ t. length t == 0) m.is
-    ∙ ap (λ t. length (t ++ replicate m.count 120) == 0) b.is
-    ∙ eqb-suc-zero (length (b.rest ++ replicate m.count 120))
+made_some base text b m = ap (λ t. length t == 0) m.is ∙ b.some (replicate m.count 120)
 
 -- texts that are made so are fresh
 pub are_fresh : (d : Bool) (f : Fresh) → AreMade d f → AreFresh f
@@ -215,12 +160,8 @@ seen_fresh d t f named m s =
 -- a text that is named is none of them
 apart_from : (named : List ℕ → Bool) (l t u : List ℕ) → named l ≡ true → u ≡ t
     → named t ≡ false → not (bytes_eq l u) ≡ true
-apart_from named l t u h e n = at (bytes_eq l u) refl
-  where
-    at : (b : Bool) → bytes_eq l u ≡ b → not b ≡ true
-    at true k = absurd (let f : true ≡ false = sym h
-        ∙ ap named (text_is l u k ∙ e) ∙ n in cc)
-    at false k = refl
+apart_from named l t u h e n = ap not (false_from_ne_true _ (λ k.
+    let f : true ≡ false = sym h ∙ ap named (text_is l u k ∙ e) ∙ n in cc))
 
 -- a level that is named, and can be one of a name, is one that a row may name
 pub named_is_literal : (d : Bool) (t : FreshTexts) (f : Fresh) (named : List ℕ → Bool)
@@ -237,21 +178,26 @@ named_is_literal d t f named short m s l level h =
       apart_from named l (string_bytes t.user) f.user.now h s.user (m.user.unnamed short),
     ) refl
 
--- none of them is named
+-- ---- all of them
+-- what holds of each holds of a text that is one of them
+pub one_of : (t : FreshTexts) (text : List ℕ) (P : List ℕ → Type 0) → P (string_bytes t.plain)
+    → P (string_bytes t.dollar) → P (string_bytes t.client) → P (string_bytes t.user)
+    → list_any (bytes_eq text) (fresh_texts t) ≡ true → P text
+one_of t text P p d c u h = grind (arith, text_is)
+
+-- none is named
 pub made_unnamed : (d : Bool) (t : FreshTexts) (named : List ℕ → Bool) → AreShort named
     → AreNew d t named → (text : List ℕ) → list_any (bytes_eq text) (fresh_texts t) ≡ true
     → named text ≡ false
-made_unnamed d t named short m text h =
-    or_cases (bytes_eq text (string_bytes t.plain)) _ h
-    (same (string_bytes t.plain) (m.plain.unnamed short))
-    (λ k. or_cases (bytes_eq text (string_bytes t.dollar)) _ k
-    (same (string_bytes t.dollar) (m.dollar.unnamed short))
-    (λ k. or_cases (bytes_eq text (string_bytes t.client)) _ k
-    (same (string_bytes t.client) (m.client.unnamed short))
-    (λ k. or_cases (bytes_eq text (string_bytes t.user)) false k
-    (same (string_bytes t.user) (m.user.unnamed short))
-    (λ e. absurd (let n : false ≡ true = e in cc)))))
-  where
-    same : (other : List ℕ) → named other ≡ false → bytes_eq text other ≡ true
-        → named text ≡ false
-    same other n e = ap named (text_is text other e) ∙ n
+made_unnamed d t named short m text = one_of t text (λ l. named l ≡ false) (m.plain.unnamed short)
+    (m.dollar.unnamed short) (m.client.unnamed short) (m.user.unnamed short)
+
+pub user_among : (t : FreshTexts)
+    → list_any (bytes_eq (string_bytes t.user)) (fresh_texts t) ≡ true
+user_among t = grind (arith, text_itself)
+
+-- a test that each passes, all that are seen as them pass
+pub all_of : (t : FreshTexts) (f : Fresh) (p : List ℕ → Bool) → IsSeen t f
+    → ((l : List ℕ) → list_any (bytes_eq l) (fresh_texts t) ≡ true → p l ≡ true)
+    → fresh_pass p f ≡ true
+all_of t f p seen h = grind (arith, text_itself, user_among)

@@ -1,8 +1,8 @@
 -- The levels that no row names, in the place of a name's.
-use Rattle.std.proofs.Common.{◌≡◌, ℕ, ◌==◌, Bool, true, false, cond, not, ◌&&◌, List, []}
-use Rattle.std.proofs.Common.{◌∷◌, length, bytes_eq, refl, ap, sym, ◌∙◌}
-use Rattle.std.proofs.Common.{map, if◌then◌else◌, ◌⊎◌, inl, inr}
-use Rattle.std.proofs.lemmas.Bool.{and_parts, and_from, not-true}
+use Rattle.std.proofs.Common.{◌≡◌, ℕ, ◌==◌, Bool, true, false, cond, not, List, [], ◌∷◌, length}
+use Rattle.std.proofs.Common.{bytes_eq, refl, ap, sym, ◌∙◌, map, if◌then◌else◌, ◌⊎◌, inl, inr}
+use Rattle.std.proofs.Common.{arith}
+use Rattle.std.proofs.lemmas.Bool.{and_from, and_parts, cond-true, cond_both, not-true}
 use Rattle.mq_topic.proofs.ByteLemmas.{text_flip}
 use Rattle.mq_acl.specs.Access.{begins_with_dollar}
 use Rattle.mq_cover.specs.Names.{is_choice, is_name_level, start_of, suits}
@@ -12,7 +12,7 @@ use Rattle.mq_witness.specs.Fresh.{is_literal, AreFresh, IsFreshId}
 use Rattle.mq_witness.specs.declared.fresh.Fresh.{Fresh}
 
 -- the level that stands for all that no row names, at the front of a name too
-abbrev other_of : Fresh → List ℕ → List ℕ
+abbrev pub other_of : Fresh → List ℕ → List ℕ
 other_of f l = if begins_with_dollar l then f.others.dollar.now else f.others.plain.now
 
 -- what stands for a level: itself where it is kept, the id that stands for others where it is the
@@ -29,34 +29,14 @@ pub record IsApart (f : Fresh) (w : List ℕ) : Type 0 where
   pub client : bytes_eq w f.client.now ≡ false
   pub user : bytes_eq w f.user.now ≡ false
 
--- a level that may be chosen is none of those that stand for others
-choice_parts : (a b c : Bool) → (a && not b && not c) ≡ true
-    → (a ≡ true) × (b ≡ false) × (c ≡ false)
-choice_parts true false false h = (refl, refl, refl)
-choice_parts true true c h = absurd (let n : false ≡ true = h in cc)
-choice_parts true false true h = absurd (let n : false ≡ true = h in cc)
-choice_parts false b c h = absurd (let n : false ≡ true = h in cc)
-
 -- a level that a row may name is apart from all texts that stand for others
 pub literal_is : (f : Fresh) (w : List ℕ) → is_literal f w ≡ true → IsApart f w
-literal_is f w h =
-    let ids = choice_parts (is_choice f.others w) (bytes_eq w f.client.now)
-    (bytes_eq w f.user.now) h in
-    let levels = choice_parts (is_name_level w) (bytes_eq w f.others.plain.now)
-    (bytes_eq w f.others.dollar.now) ids.0 in
-    record {
-      level = levels.0;
-      plain = levels.1;
-      dollar = levels.2;
-      client = ids.1;
-      user = ids.2;
-    }
+literal_is f w h = grind arith
 
 -- it may be chosen
 pub literal_is_choice : (f : Fresh) (w : List ℕ) → is_literal f w ≡ true
     → is_choice f.others w ≡ true
-literal_is_choice f w h = (choice_parts (is_choice f.others w) (bytes_eq w f.client.now)
-    (bytes_eq w f.user.now) h).0
+literal_is_choice f w h = (and_parts _ _ (and_parts _ _ h).0).0
 
 -- an id that stands for others is no level that does
 pub record IsNoOther (f : Fresh) (id : List ℕ) : Type 0 where
@@ -64,13 +44,7 @@ pub record IsNoOther (f : Fresh) (id : List ℕ) : Type 0 where
   pub dollar : bytes_eq f.others.dollar.now id ≡ false
 
 pub id_is : (f : Fresh) (id : List ℕ) → IsFreshId f id → IsNoOther f id
-id_is f id h =
-    let levels = choice_parts (is_name_level id) (bytes_eq id f.others.plain.now)
-    (bytes_eq id f.others.dollar.now) h.choice in
-    record {
-      plain = text_flip f.others.plain.now id ∙ levels.1;
-      dollar = text_flip f.others.dollar.now id ∙ levels.2;
-    }
+id_is f id h = grind (arith, text_flip)
 
 -- levels are moved so, and all that are kept are such as a row may name
 pub record CanMove (f : Fresh) (keep user client : List ℕ → Bool) : Type 0 where
@@ -88,159 +62,95 @@ pub record OthersAre (f : Fresh) : Type 0 where
   pub dollar : begins_with_dollar f.others.dollar.now ≡ true
 
 pub others_are : (f : Fresh) → AreFresh f → OthersAre f
-others_are f fresh =
-    let parts = five (length f.others.plain.now == 0) (begins_with_dollar f.others.plain.now)
-    (is_name_level f.others.plain.now) (begins_with_dollar f.others.dollar.now)
-    (is_name_level f.others.dollar.now) fresh.others in
-    record {
-      plain_level = parts.2;
-      dollar_level = parts.4;
-      plain_some = parts.0;
-      dollar_some = no_dollar f.others.dollar.now parts.3;
-      plain = parts.1;
-      dollar = parts.3;
-    }
-  where
-    five : (a b c d e : Bool) → (not a && not b && c && d && e) ≡ true
-        → (a ≡ false) × (b ≡ false) × (c ≡ true) × (d ≡ true) × (e ≡ true)
-    five true b c d e h = absurd (let n : false ≡ true = h in cc)
-    five false true c d e h = absurd (let n : false ≡ true = h in cc)
-    five false false false d e h = absurd (let n : false ≡ true = h in cc)
-    five false false true false e h = absurd (let n : false ≡ true = h in cc)
-    five false false true true e h = (refl, refl, refl, refl, h)
+others_are f fresh = grind (arith, no_dollar f.others.dollar.now)
 
 -- two texts that differ don't pass the test
-no : {A : Type 0} (b : Bool) → b ≡ false → b ≡ true → A
-no b e h = absurd (let n : false ≡ true = sym e ∙ h in cc)
+pub no : {A : Type 0} {b : Bool} → b ≡ false → b ≡ true → A
+no e h = absurd (let n : false ≡ true = sym e ∙ h in cc)
 
-module _ (f : Fresh) (keep user client : List ℕ → Bool) (can : CanMove f keep user client) where
+module _ {f : Fresh} {keep user client : List ℕ → Bool} (can : CanMove f keep user client) where
+  -- what holds of each text that may stand for a level holds of the one that does
+  pub moved_by : (P : List ℕ → Type 0) (l : List ℕ) → (keep l ≡ true → P l)
+      → (keep l ≡ false → user l ≡ true → P f.user.now)
+      → (user l ≡ false → client l ≡ true → P f.client.now)
+      → (user l ≡ false → client l ≡ false → P (other_of f l)) → P (move f keep user client l)
+  moved_by P l k u c o = cond_both (keep l) _ _ P k (λ e. cond_both (user l) _ _ P (u e)
+      (λ n. cond_both (client l) _ _ P (c n) (o n)))
+
+  other_by : (P : List ℕ → Type 0) (l : List ℕ)
+      → (begins_with_dollar l ≡ true → P f.others.dollar.now)
+      → (begins_with_dollar l ≡ false → P f.others.plain.now) → P (other_of f l)
+  other_by P l d p = cond_both (begins_with_dollar l) _ _ P d p
+
   -- only a level that is kept becomes one that a row may name
   pub moved_kept : (w l : List ℕ) → is_literal f w ≡ true
       → bytes_eq w (move f keep user client l) ≡ true
       → (keep l ≡ true) × (bytes_eq w l ≡ true)
-  moved_kept w l h = at (keep l) refl (user l) (client l) (begins_with_dollar l)
-    where
-      apart : IsApart f w
-      apart = literal_is f w h
-
-      at : (a : Bool) → keep l ≡ a → (b c d : Bool)
-          → bytes_eq w (cond a l (cond b f.user.now (cond c f.client.now
-          (cond d f.others.dollar.now f.others.plain.now)))) ≡ true
-          → (keep l ≡ true) × (bytes_eq w l ≡ true)
-      at true k b c d e = (k, e)
-      at false k true c d e = no (bytes_eq w f.user.now) apart.user e
-      at false k false true d e = no (bytes_eq w f.client.now) apart.client e
-      at false k false false true e = no (bytes_eq w f.others.dollar.now) apart.dollar e
-      at false k false false false e = no (bytes_eq w f.others.plain.now) apart.plain e
+  moved_kept w l h =
+      let apart = literal_is f w h in
+      let P : List ℕ → Type 0 = λ t. bytes_eq w t ≡ true → (keep l ≡ true) × (bytes_eq w l ≡ true)
+      in
+      moved_by P l (λ k e. (k, e)) (λ n u. no apart.user) (λ n c. no apart.client)
+      (λ n m. other_by P l (λ d. no apart.dollar) (λ d. no apart.plain))
 
   -- only the user's becomes the user name that stands for others
   pub moved_user : (l : List ℕ) → bytes_eq (move f keep user client l) f.user.now ≡ true
       → user l ≡ true
-  moved_user l = at (keep l) refl (user l) refl (client l) (begins_with_dollar l)
-    where
-      none : IsNoOther f f.user.now
-      none = id_is f f.user.now can.fresh.user
-
-      at : (a : Bool) → keep l ≡ a → (b : Bool) → user l ≡ b → (c d : Bool)
-          → bytes_eq (cond a l (cond b f.user.now (cond c f.client.now
-          (cond d f.others.dollar.now f.others.plain.now)))) f.user.now ≡ true
-          → user l ≡ true
-      at true k b g c d e = no (bytes_eq l f.user.now) (literal_is f l (can.kept l k)).user e
-      at false k true g c d e = g
-      at false k false g true d e = no (bytes_eq f.client.now f.user.now)
-          (text_flip f.client.now f.user.now ∙ can.fresh.apart) e
-      at false k false g false true e = no (bytes_eq f.others.dollar.now f.user.now) none.dollar e
-      at false k false g false false e = no (bytes_eq f.others.plain.now f.user.now) none.plain e
+  moved_user l =
+      let none = id_is f f.user.now can.fresh.user in
+      let P : List ℕ → Type 0 = λ t. bytes_eq t f.user.now ≡ true → user l ≡ true in
+      moved_by P l (λ k. no (literal_is f l (can.kept l k)).user) (λ n u e. u)
+      (λ n c. no (text_flip f.client.now f.user.now ∙ can.fresh.apart))
+      (λ n m. other_by P l (λ d. no none.dollar) (λ d. no none.plain))
 
   -- only the client's becomes the client id that stands for others
   pub moved_client : (l : List ℕ) → bytes_eq (move f keep user client l) f.client.now ≡ true
       → client l ≡ true
-  moved_client l = at (keep l) refl (user l) (client l) refl (begins_with_dollar l)
-    where
-      none : IsNoOther f f.client.now
-      none = id_is f f.client.now can.fresh.client
-
-      at : (a : Bool) → keep l ≡ a → (b c : Bool) → client l ≡ c → (d : Bool)
-          → bytes_eq (cond a l (cond b f.user.now (cond c f.client.now
-          (cond d f.others.dollar.now f.others.plain.now)))) f.client.now ≡ true
-          → client l ≡ true
-      at true k b c g d e = no (bytes_eq l f.client.now) (literal_is f l (can.kept l k)).client e
-      at false k true c g d e = no (bytes_eq f.user.now f.client.now) can.fresh.apart e
-      at false k false true g d e = g
-      at false k false false g true e = no (bytes_eq f.others.dollar.now f.client.now) none.dollar e
-      at false k false false g false e = no (bytes_eq f.others.plain.now f.client.now) none.plain e
+  moved_client l =
+      let none = id_is f f.client.now can.fresh.client in
+      let P : List ℕ → Type 0 = λ t. bytes_eq t f.client.now ≡ true → client l ≡ true in
+      moved_by P l (λ k. no (literal_is f l (can.kept l k)).client) (λ n u. no can.fresh.apart)
+      (λ n c e. c)
+      (λ n m. other_by P l (λ d. no none.dollar) (λ d. no none.plain))
 
   -- what is kept stays
   pub move_keep : (l : List ℕ) → keep l ≡ true → move f keep user client l ≡ l
-  move_keep l k = ap (λ b. cond b l (cond (user l) f.user.now
-      (cond (client l) f.client.now (other_of f l)))) k
-
-  pub move_user : (l : List ℕ) → keep l ≡ false → user l ≡ true
-      → move f keep user client l ≡ f.user.now
-  move_user l k g =
-      ap (λ b. cond b l (cond (user l) f.user.now (cond (client l) f.client.now (other_of f l)))) k
-      ∙ ap (λ b. cond b f.user.now (cond (client l) f.client.now (other_of f l))) g
-
-  pub move_client : (l : List ℕ) → keep l ≡ false → user l ≡ false → client l ≡ true
-      → move f keep user client l ≡ f.client.now
-  move_client l k g c =
-      ap (λ b. cond b l (cond (user l) f.user.now (cond (client l) f.client.now (other_of f l)))) k
-      ∙ ap (λ b. cond b f.user.now (cond (client l) f.client.now (other_of f l))) g
-      ∙ ap (λ b. cond b f.client.now (other_of f l)) c
+  move_keep l k = cond-true (keep l) _ _ k
 
   -- ---- names
   -- only what stays is empty
   moved_some : (l : List ℕ) → (length (move f keep user client l) == 0) ≡ true
       → move f keep user client l ≡ l
-  moved_some l = at (keep l) (user l) (client l) (begins_with_dollar l)
-    where
-      others : OthersAre f
-      others = others_are f can.fresh
-
-      at : (a b c d : Bool)
-          → (length (cond a l (cond b f.user.now (cond c f.client.now
-          (cond d f.others.dollar.now f.others.plain.now)))) == 0) ≡ true
-          → cond a l (cond b f.user.now (cond c f.client.now
-          (cond d f.others.dollar.now f.others.plain.now))) ≡ l
-      at true b c d e = refl
-      at false true c d e = no (length f.user.now == 0) can.fresh.user.some e
-      at false false true d e = no (length f.client.now == 0) can.fresh.client.some e
-      at false false false true e = no (length f.others.dollar.now == 0) others.dollar_some e
-      at false false false false e = no (length f.others.plain.now == 0) others.plain_some e
+  moved_some l =
+      let others = others_are f can.fresh in
+      let P : List ℕ → Type 0 = λ t. (length t == 0) ≡ true → t ≡ l in
+      moved_by P l (λ k e. refl)
+      (λ n u. no can.fresh.user.some) (λ n c. no can.fresh.client.some)
+      (λ n m. other_by P l (λ d. no others.dollar_some) (λ d. no others.plain_some))
 
   -- at the front of a name a level is kept, or nobody's, or the ids begin with `$` just where the name does
   abbrev pub StaysAtFront : Bool → List ℕ → Type 0
   StaysAtFront dollar l = (keep l ≡ true)
       ⊎ (((user l ≡ false) × (client l ≡ false)) ⊎ (begins_with_dollar f.client.now ≡ dollar))
 
-  other_kind : (l : List ℕ) → begins_with_dollar (other_of f l) ≡ begins_with_dollar l
-  other_kind l = at (begins_with_dollar l)
-    where
-      at : (d : Bool) → begins_with_dollar (cond d f.others.dollar.now f.others.plain.now) ≡ d
-      at true = (others_are f can.fresh).dollar
-      at false = (others_are f can.fresh).plain
-
   moved_front : (dollar : Bool) (l : List ℕ) → StaysAtFront dollar l
       → begins_with_dollar l ≡ dollar → begins_with_dollar (move f keep user client l) ≡ dollar
-  moved_front dollar l (inl k) e = ap begins_with_dollar (move_keep l k) ∙ e
-  moved_front dollar l (inr (inl n)) e = at (keep l)
+  moved_front dollar l stays e = at stays
     where
-      at : (a : Bool) → begins_with_dollar (cond a l (cond (user l) f.user.now
-          (cond (client l) f.client.now (other_of f l)))) ≡ dollar
-      at true = e
-      at false =
-          ap (λ b. begins_with_dollar (cond b f.user.now (cond (client l) f.client.now
-          (other_of f l)))) n.0
-          ∙ ap (λ b. begins_with_dollar (cond b f.client.now (other_of f l))) n.1
-          ∙ other_kind l ∙ e
-  moved_front dollar l (inr (inr ids)) e = at (keep l) (user l) (client l)
-    where
-      at : (a b c : Bool) → begins_with_dollar (cond a l (cond b f.user.now
-          (cond c f.client.now (other_of f l)))) ≡ dollar
-      at true b c = e
-      at false true c = can.fresh.begin ∙ ids
-      at false false true = ids
-      at false false false = other_kind l ∙ e
+      others : OthersAre f
+      others = others_are f can.fresh
+
+      by : (user l ≡ true → begins_with_dollar f.user.now ≡ dollar)
+          → (client l ≡ true → begins_with_dollar f.client.now ≡ dollar)
+          → begins_with_dollar (move f keep user client l) ≡ dollar
+      by u c = moved_by (λ t. begins_with_dollar t ≡ dollar) l (λ k. e) (λ n. u) (λ n. c)
+          (λ n m. other_by (λ t. begins_with_dollar t ≡ dollar) l
+          (λ d. others.dollar ∙ sym d ∙ e) (λ d. others.plain ∙ sym d ∙ e))
+
+      at : StaysAtFront dollar l → begins_with_dollar (move f keep user client l) ≡ dollar
+      at (inl k) = ap begins_with_dollar (move_keep l k) ∙ e
+      at (inr (inl n)) = by (no n.0) (no n.1)
+      at (inr (inr ids)) = by (λ u. can.fresh.begin ∙ ids) (λ c. ids)
 
   slash_suits : (g : List ℕ → List ℕ) (ls : List (List ℕ)) → suits Slash ls ≡ true
       → suits Slash (map g ls) ≡ true
@@ -252,23 +162,14 @@ module _ (f : Fresh) (keep user client : List ℕ → Bool) (can : CanMove f kee
       → suits (start_of dollar) (l ∷ ls) ≡ true
       → suits (start_of dollar) (map (move f keep user client) (l ∷ ls)) ≡ true
   suits_moved true l ls stays s =
-      let first = (and_parts (begins_with_dollar l) (suits Inside ls) s).0 in
-      and_from (begins_with_dollar (move f keep user client l))
-      (suits Inside (map (move f keep user client) ls)) (moved_front true l stays first)
+      and_from _ _ (moved_front true l stays (and_parts _ _ s).0)
       (suits_inside (map (move f keep user client) ls))
   suits_moved false l ls stays s =
-      let parts = and_parts (not (begins_with_dollar l))
-      (suits (cond (length l == 0) Slash Inside) ls) s in
-      and_from (not (begins_with_dollar (move f keep user client l)))
-      (suits (cond (length (move f keep user client l) == 0) Slash Inside)
-      (map (move f keep user client) ls))
-      (ap not (moved_front false l stays (not-true (begins_with_dollar l) parts.0)))
-      (at (length (move f keep user client l) == 0) refl parts.1)
-    where
-      at : (b : Bool) → (length (move f keep user client l) == 0) ≡ b
-          → suits (cond (length l == 0) Slash Inside) ls ≡ true
-          → suits (cond b Slash Inside) (map (move f keep user client) ls) ≡ true
-      at false e h = suits_inside (map (move f keep user client) ls)
-      at true e h = slash_suits (move f keep user client) ls
-          (sym (ap (λ b. suits (cond b Slash Inside) ls)
-          (ap (λ t. length t == 0) (sym (moved_some l e)) ∙ e)) ∙ h)
+      let parts = and_parts (not (begins_with_dollar l)) _ s in
+      and_from _ _ (ap not (moved_front false l stays (not-true _ parts.0)))
+      (cond_both (length (move f keep user client l) == 0) Slash Inside
+      (λ t. suits t (map (move f keep user client) ls) ≡ true)
+      (λ e. slash_suits (move f keep user client) ls
+      (sym (ap (λ b. suits (cond b Slash Inside) ls)
+      (ap (λ t. length t == 0) (sym (moved_some l e)) ∙ e)) ∙ parts.1))
+      (λ e. suits_inside (map (move f keep user client) ls)))

@@ -1,7 +1,7 @@
+pub mod TestLemmas
 pub mod LiteralLemmas
 pub mod MoveLemmas
 pub mod FreshMoves
-pub mod FrontLemmas
 pub mod TriedLemmas
 pub mod OtherLemmas
 pub mod NameLemmas
@@ -13,8 +13,8 @@ pub mod AskLemmas
 pub mod TryLemmas
 pub mod AnswerLemmas
 pub mod ReadyLemmas
-pub mod SortLemmas
 pub mod SwapLemmas
 pub mod ShowLemmas
 pub mod TopicLemmas
+pub mod MarkLemmas
 pub mod RuledLemmas

@@ -1,11 +1,10 @@
 -- Filters that cover no name in common.
-use Rattle.std.proofs.Common.{◌≡◌, ℕ, ◌==◌, Bool, true, false, cond, ◌&&◌, ◌||◌, List, [], ◌∷◌}
-use Rattle.std.proofs.Common.{length, codes, bytes_eq, refl, ap, sym, ◌∙◌}
-use Rattle.std.proofs.lemmas.Bool.{and_parts, and_left, and_right, or_parts}
+use Rattle.std.proofs.Common.{◌≡◌, ℕ, ◌==◌, Bool, true, false, ◌&&◌, List, [], ◌∷◌, length, codes}
+use Rattle.std.proofs.Common.{bytes_eq, ap, sym, ◌∙◌, arith}
+use Rattle.std.proofs.lemmas.Bool.{and_left, and_parts, and_right, false_from_ne_true}
 use Rattle.mq_topic.proofs.ByteLemmas.{text_is, text_itself}
 use Rattle.mq_topic.proofs.Walk.{levels_match_end}
-use Rattle.mq_topic.specs.Matching.{level_matches, levels_match_by}
-use Rattle.mq_acl.specs.Access.{is_user}
+use Rattle.mq_topic.specs.Matching.{levels_match_by}
 use Rattle.mq_cover.specs.Remainders.{MarkLevels, passes}
 use Rattle.mq_cover.proofs.RemainderLemmas.{covers_cons}
 use Rattle.mq_witness.specs.Overlaps.{is_loose}
@@ -18,19 +17,7 @@ AreApart p q marks ws vs = (ls : List (List ℕ)) → levels_match_by (passes p 
 -- a level that isn't loose is passed by itself alone
 only_itself : (pattern : Bool) (marks : MarkLevels) (w l : List ℕ) → is_loose pattern w ≡ false
     → passes pattern marks w l ≡ bytes_eq w l
-only_itself pattern marks w l h =
-    let parts = or_parts (bytes_eq w (codes "+"))
-    (pattern && (bytes_eq w (codes "%c") || bytes_eq w (codes "%u"))) h in
-    at pattern (bytes_eq w (codes "%c")) (bytes_eq w (codes "%u")) parts.1
-    ∙ ap (λ b. b || bytes_eq w l) parts.0
-  where
-    at : (p c u : Bool) → (p && (c || u)) ≡ false
-        → cond (p && c) (is_user l marks.client)
-        (cond (p && u) (is_user l marks.user) (level_matches w l)) ≡ level_matches w l
-    at false c u e = refl
-    at true true u e = absurd (let n : true ≡ false = e in cc)
-    at true false true e = absurd (let n : true ≡ false = e in cc)
-    at true false false e = refl
+only_itself pattern marks w l h = grind arith
 
 module _ (p q : Bool) (marks : MarkLevels) where
   -- where what is left behind two levels is apart
@@ -42,8 +29,8 @@ module _ (p q : Bool) (marks : MarkLevels) where
       absurd (let n : false ≡ true = sym (levels_match_end (passes p marks) w ws e) ∙ m in cc)
   apart_behind w v ws vs e g apart (l ∷ ls) m =
       covers_cons (passes q marks) v l vs ls g
-      ∙ and_right (passes q marks v l) (levels_match_by (passes q marks) vs ls)
-      (apart ls (and_parts (passes p marks w l) (levels_match_by (passes p marks) ws ls)
+      ∙ and_right (passes q marks v l) _
+      (apart ls (and_parts (passes p marks w l) _
       (sym (covers_cons (passes p marks) w l ws ls e) ∙ m)).1)
 
   -- where both want one level, and not the same
@@ -55,17 +42,13 @@ module _ (p q : Bool) (marks : MarkLevels) where
   apart_here w v ws vs e g a b differ [] m =
       absurd (let n : false ≡ true = sym (levels_match_end (passes p marks) w ws e) ∙ m in cc)
   apart_here w v ws vs e g a b differ (l ∷ ls) m =
-      let first = sym (only_itself p marks w l a)
-      ∙ (and_parts (passes p marks w l) (levels_match_by (passes p marks) ws ls)
+      let first = sym (only_itself p marks w l a) ∙ (and_parts (passes p marks w l) _
       (sym (covers_cons (passes p marks) w l ws ls e) ∙ m)).0 in
       covers_cons (passes q marks) v l vs ls g
-      ∙ and_left (passes q marks v l) (levels_match_by (passes q marks) vs ls)
-      (only_itself q marks v l b ∙ at (bytes_eq v l) refl (text_is w l first))
-    where
-      at : (t : Bool) → bytes_eq v l ≡ t → w ≡ l → t ≡ false
-      at true k is = absurd (let n : true ≡ false =
-          sym (ap (bytes_eq w) (text_is v l k ∙ sym is) ∙ text_itself w) ∙ differ in cc)
-      at false k is = refl
+      ∙ and_left _ _ (only_itself q marks v l b ∙ false_from_ne_true _ (λ k.
+      let n : true ≡ false =
+      sym (ap (bytes_eq w) (text_is v l k ∙ sym (text_is w l first)) ∙ text_itself w) ∙ differ in
+      cc))
 
   -- what is apart by its levels is apart
   pub apart_at : (fs gs ws vs : List (List ℕ)) → fs ≡ ws → gs ≡ vs → AreApart p q marks ws vs

@@ -1,12 +1,11 @@
 -- What a search finds, as it is shown.
-use Rattle.std.proofs.Common.{◌≡◌, ℕ, Bool, true, false, not, ◌&&◌, ◌||◌, List, [], ◌∷◌, Option}
-use Rattle.std.proofs.Common.{Some, None, refl, ap, sym, ◌∙◌, string_bytes, bytes_eq, ◌++◌, length}
+use Rattle.std.proofs.Common.{◌≡◌, ℕ, Bool, true, false, not, ◌&&◌, ◌||◌, List, Option, Some, None}
+use Rattle.std.proofs.Common.{refl, ap, sym, ◌∙◌, string_bytes, bytes_eq, ◌++◌, length, inl, inr}
 use Rattle.std.specs.Prelude.{All, Contains, nat_le}
 use Rattle.std.specs.List.{list_all, list_any}
 use Rattle.std.specs.Option.{option_copied}
-use Rattle.std.proofs.lemmas.Bool.{and_from, and_parts, or_left, or_right}
+use Rattle.std.proofs.lemmas.Bool.{and_from, and_parts, cases_Bool, or_left, or_right}
 use Rattle.std.proofs.lemmas.List.Folds.{list_any-append}
-use Rattle.mq_topic.proofs.ByteLemmas.{text_itself}
 use Rattle.mq_topic.specs.Levels.{levels}
 use Rattle.mq_topic.specs.Texts.{is_name}
 use Rattle.mq_acl.specs.Access.{begins_with_dollar}
@@ -16,18 +15,15 @@ use Rattle.mq_cover.specs.Remainders.{fits, mark_passes}
 use Rattle.mq_cover.proofs.NameLemmas.{choice_is_level}
 use Rattle.mq_witness.specs.Answers.{IsFoundBy}
 use Rattle.mq_witness.specs.Asked.{AreLevels, AskedRows, FindsNone, FindsNoneIn, IsListed, Knows}
-use Rattle.mq_witness.specs.Asked.{ShowsIn}
-use Rattle.mq_witness.specs.Asked.{is_known}
-use Rattle.mq_witness.specs.Asked.{is_placeholder}
-use Rattle.mq_witness.specs.Asked.{user_view}
+use Rattle.mq_witness.specs.Asked.{ShowsIn, is_known, user_view}
 use Rattle.mq_witness.specs.Clients.{can_be_id, is_of, name_passes}
-use Rattle.mq_witness.specs.Decided.{decides, decides_in}
+use Rattle.mq_witness.specs.Decided.{decides_in}
 use Rattle.mq_witness.specs.Fresh.{AreFresh, fresh_pass, is_literal}
 use Rattle.mq_witness.specs.FreshTexts.{IsSeen, fresh_texts}
-use Rattle.mq_witness.specs.Literals.{is_literal_in, is_named}
+use Rattle.mq_witness.specs.Literals.{is_named}
 use Rattle.mq_witness.specs.Ready.{CanAnswer, CanBeAsked, NamesNone}
 use Rattle.mq_witness.specs.Roots.{rows_fit}
-use Rattle.mq_witness.specs.Rows.{is_name_of, is_user_of, row_names, rows_name}
+use Rattle.mq_witness.specs.Rows.{is_user_of, rows_name}
 use Rattle.mq_witness.specs.declared.clients.Clients.{Clients}
 use Rattle.mq_witness.specs.declared.clients.Clients.TheVariants.{Anonymous, Named, Others}
 use Rattle.mq_witness.specs.declared.fresh.BothFresh.{BothFresh}
@@ -39,7 +35,9 @@ use Rattle.mq_witness.specs.declared.witness.Witness.{Witness}
 use Rattle.mq_witness.proofs.LimitLemmas.{user_is_named}
 use Rattle.mq_witness.proofs.AnswerLemmas.{NoneFor}
 use Rattle.mq_witness.proofs.FreshMoves.{literal_is, others_are}
-use Rattle.mq_witness.proofs.LiteralLemmas.{fits_mono, fits_named}
+use Rattle.mq_witness.proofs.FreshLemmas.{all_of}
+use Rattle.mq_witness.proofs.LiteralLemmas.{fits_mono, rows_named}
+use Rattle.mq_witness.proofs.TestLemmas.{all_by}
 use Rattle.mq_witness.proofs.ReadyLemmas.{all_contained}
 use Rattle.mq_witness.proofs.TriedLemmas.{literal_is_no_wildcard}
 
@@ -60,27 +58,29 @@ pub record HasTexts (found : Found) (w : Witness) : Type 0 where
   pub name : w.name ≡ found.name
 
 -- what is found is shown
-pub found_shown : (front dollar : Bool) (asked : AskedRows) (texts : FreshTexts) (users : Literals)
-    (both : BothFresh) (clients : Clients) (must cover : List AclRow) (found : Found) (w : Witness)
+pub found_shown : {front dollar : Bool} (asked : AskedRows) {texts : FreshTexts} {users : Literals}
+    {both : BothFresh} {clients : Clients} {must cover : List AclRow} {found : Found} {w : Witness}
     → CanBeAsked asked.rows texts users → HasTexts found w
     → IsFoundBy front dollar both (λ u. is_named u users) clients must cover found
     → ShowsIn front asked clients must cover w
-found_shown front dollar asked texts users both clients must cover found w can has h = record {
-  client_fits = ap can_be_id has.client ∙ h.client_fits;
-  user_fits = ap (is_of (λ u. is_user_of u asked.rows) clients) has.user
-      ∙ is_of_same (λ u. is_user_of u asked.rows) (λ u. is_named u users) (λ u. sym (can.named u))
-      clients (option_copied found.user) ∙ h.user_fits;
-  valid = ap is_name has.name ∙ h.valid;
-  decided = (λ i. decides_in front (has.client i) (has.user i) (has.name i) must cover) ∙ h.decided;
-}
+found_shown {front} asked {users = users} {clients = clients} {must = must} {cover = cover}
+    {found = found} can has h = record {
+      client_fits = ap can_be_id has.client ∙ h.client_fits;
+      user_fits = ap (is_of (λ u. is_user_of u asked.rows) clients) has.user
+          ∙ is_of_same (λ u. is_user_of u asked.rows) (λ u. is_named u users)
+          (λ u. sym (can.named u)) clients (option_copied found.user) ∙ h.user_fits;
+      valid = ap is_name has.name ∙ h.valid;
+      decided = (λ i. decides_in front (has.client i) (has.user i) (has.name i) must cover)
+          ∙ h.decided;
+    }
 
 -- where a search finds none, there is none
-pub finds_none : (front dollar : Bool) (asked : AskedRows) (texts : FreshTexts) (users : Literals)
+pub finds_none : (front dollar : Bool) (asked : AskedRows) {texts : FreshTexts} {users : Literals}
     (clients : Clients) (must cover : List AclRow) → CanBeAsked asked.rows texts users
     → NoneFor front users clients dollar must cover
     → FindsNoneIn front dollar asked clients must cover
-finds_none front dollar asked texts users clients must cover can none client name user id of valid
-    kind =
+finds_none front dollar asked {users = users} clients must cover can none client name user id of
+    valid kind =
     none client name user id
     (is_of_same (λ u. is_named u users) (λ u. is_user_of u asked.rows) can.named clients user ∙ of)
     valid kind
@@ -90,46 +90,28 @@ pub neither_kind : (asked : AskedRows) (clients : Clients) (must cover : List Ac
     → FindsNoneIn false false asked clients must cover
     → FindsNoneIn false true asked clients must cover → FindsNone asked clients must cover
 neither_kind asked clients must cover plain dollar client name user id of valid =
-    at (begins_with_dollar name) refl
-  where
-    at : (b : Bool) → begins_with_dollar name ≡ b → decides client user name must cover ≡ false
-    at true e = dollar client name user id of valid e
-    at false e = plain client name user id of valid e
+    elim (cases_Bool (begins_with_dollar name)) [
+      | inl e ↦ dollar client name user id of valid e
+      | inr e ↦ plain client name user id of valid e
+    ]
 
 -- ---- what is known of its texts
--- rows that name only levels that pass a test fit it
-rows_named_fit : (f : Fresh) (p : List ℕ → Bool) (all : List AclRow)
-    → rows_fit (is_literal f) all ≡ true
-    → ((l : List ℕ) → rows_name l all ≡ true → p l ≡ true) → rows_fit p all ≡ true
-rows_named_fit f p [] fit h = refl
-rows_named_fit f p (row ∷ all) fit h =
-    let parts = and_parts (fits (is_literal f) (levels row.filter)) (rows_fit (is_literal f) all)
-    fit in
-    and_from (fits p (levels row.filter)) (rows_fit p all)
-    (fits_named (is_literal f) p (literal_is_no_wildcard f) (levels row.filter) parts.0
-    (λ l k i. h l (or_left (row_names l row) (rows_name l all)
-    (or_left (is_literal_in l (levels row.filter)) (is_name_of l row.who) i))))
-    (rows_named_fit f p all parts.1
-    (λ l i. h l (or_right (row_names l row) (rows_name l all) i)))
-
 -- each text of what is found is named by a row, or a placeholder
-pub found_known : (front kind : Bool) (asked : AskedRows) (texts dollar longest : FreshTexts)
-    (users : Literals) (both : BothFresh) (clients : Clients) (must cover : List AclRow)
-    (found : Found) (w : Witness) → CanAnswer asked.rows texts dollar longest users
+pub found_known : {front kind : Bool} (asked : AskedRows) {texts dollar longest : FreshTexts}
+    {users : Literals} (both : BothFresh) {clients : Clients} {must cover : List AclRow}
+    {found : Found} {w : Witness} → CanAnswer asked.rows texts dollar longest users
     → asked.placeholders ≡ fresh_texts texts ++ fresh_texts dollar → IsSeen texts both.plain
     → IsSeen dollar both.dollar → IsListed asked clients → All (Contains asked.rows) must
     → HasTexts found w → IsFoundBy front kind both (λ u. is_named u users) clients must cover found
     → Knows asked w
-found_known front kind asked texts dollar longest users both clients must cover found w can made seen
-    begun listed must_in has h =
-    let rows_known = rows_named_fit both.plain (is_known asked) asked.rows
-    (can.asked_can.fits both.plain seen)
-    (λ l i. or_left (rows_name l asked.rows) (is_placeholder l asked) i) in
+found_known asked {texts} {dollar} both {clients} {must} can made seen begun listed must_in has h =
+    let rows_known = rows_named (is_literal both.plain) (is_known asked)
+    (literal_is_no_wildcard both.plain) asked.rows (can.asked_can.fits both.plain seen)
+    (λ l k i. or_left _ _ i) in
     let pass = h.known (is_known asked)
-    (fresh texts both.plain seen (λ t e. known t
-    (or_left (list_any (bytes_eq t) (fresh_texts texts)) _ e)))
-    (fresh dollar both.dollar begun (λ t e. known t
-    (or_right (list_any (bytes_eq t) (fresh_texts texts)) _ e)))
+    (all_of texts both.plain (is_known asked) seen (λ t e. known t (or_left _ _ e)))
+    (all_of dollar both.dollar (is_known asked) begun
+    (λ t e. known t (or_right (list_any (bytes_eq t) (fresh_texts texts)) _ e)))
     (all_contained (λ row. fits (is_known asked) (levels row.filter)) asked.rows must rows_known
     must_in) (by clients listed) in
     record {
@@ -140,79 +122,43 @@ found_known front kind asked texts dollar longest users both clients must cover 
   where
     known : (t : List ℕ) → (list_any (bytes_eq t) (fresh_texts texts)
         || list_any (bytes_eq t) (fresh_texts dollar)) ≡ true → is_known asked t ≡ true
-    known t e = or_right (rows_name t asked.rows) (is_placeholder t asked)
-        (ap (list_any (bytes_eq t)) made
+    known t e = or_right (rows_name t asked.rows) _ (ap (list_any (bytes_eq t)) made
         ∙ list_any-append (bytes_eq t) (fresh_texts texts) (fresh_texts dollar) ∙ e)
-
-    here : (t s : List ℕ) (rest : Bool) → t ≡ s → (bytes_eq t s || rest) ≡ true
-    here t s rest e = or_left (bytes_eq t s) rest (ap (bytes_eq t) (sym e) ∙ text_itself t)
-
-    four : (a b c d : Bool) → a ≡ true → b ≡ true → c ≡ true → d ≡ true
-        → (a && b && c && d) ≡ true
-    four a b c d e g i j = rw (e, g, i, j) refl
-
-    fresh : (t : FreshTexts) (f : Fresh) → IsSeen t f
-        → ((l : List ℕ) → list_any (bytes_eq l) (fresh_texts t) ≡ true → is_known asked l ≡ true)
-        → fresh_pass (is_known asked) f ≡ true
-    fresh t f seen one = four (is_known asked f.others.plain.now) (is_known asked f.others.dollar.now)
-        (is_known asked f.client.now) (is_known asked f.user.now)
-        (one f.others.plain.now (here f.others.plain.now (string_bytes t.plain) _ seen.plain))
-        (one f.others.dollar.now
-        (or_right (bytes_eq f.others.dollar.now (string_bytes t.plain)) _
-        (here f.others.dollar.now (string_bytes t.dollar) _ seen.dollar)))
-        (one f.client.now (or_right (bytes_eq f.client.now (string_bytes t.plain)) _
-        (or_right (bytes_eq f.client.now (string_bytes t.dollar)) _
-        (here f.client.now (string_bytes t.client) _ seen.client))))
-        (one f.user.now (or_right (bytes_eq f.user.now (string_bytes t.plain)) _
-        (or_right (bytes_eq f.user.now (string_bytes t.dollar)) _
-        (or_right (bytes_eq f.user.now (string_bytes t.client)) _
-        (here f.user.now (string_bytes t.user) false seen.user)))))
 
     by : (k : Clients) → IsListed asked k → name_passes (is_known asked) k ≡ true
     by Anonymous e = refl
-    by (Named name) e = or_left (rows_name name.now asked.rows) (is_placeholder name.now asked)
-        (user_is_named asked.rows name.now e)
+    by (Named name) e = or_left _ _ (user_is_named asked.rows name.now e)
     by Others e = refl
 
 -- ---- levels
 -- a level that a row may name, and one that stands for others, can be levels
 literal_can : (f : Fresh) (w : List ℕ) → is_literal f w ≡ true → can_be_level w ≡ true
-literal_can f w h =
-    (and_parts (can_be_level w) (nat_le (length w) 321) (literal_is f w h).level).0
+literal_can f w h = (and_parts _ _ (literal_is f w h).level).0
 
 fresh_can : (f : Fresh) → AreFresh f → fresh_pass can_be_level f ≡ true
 fresh_can f fresh =
     let others = others_are f fresh in
-    four (can_be_level f.others.plain.now) (can_be_level f.others.dollar.now)
-    (can_be_level f.client.now) (can_be_level f.user.now)
-    (level f.others.plain.now others.plain_level) (level f.others.dollar.now others.dollar_level)
-    (level f.client.now (choice_is_level f.others f.client.now fresh.client.choice))
+    and_from _ _ (and_from _ _ (and_from _ _ (level f.others.plain.now others.plain_level)
+    (level f.others.dollar.now others.dollar_level))
+    (level f.client.now (choice_is_level f.others f.client.now fresh.client.choice)))
     (level f.user.now (choice_is_level f.others f.user.now fresh.user.choice))
   where
     level : (w : List ℕ) → is_name_level w ≡ true → can_be_level w ≡ true
     level w h = (and_parts (can_be_level w) (nat_le (length w) 321) h).0
 
-    four : (a b c d : Bool) → a ≡ true → b ≡ true → c ≡ true → d ≡ true
-        → (a && b && c && d) ≡ true
-    four a b c d e g i j = rw (e, g, i, j) refl
-
 rows_can : (f : Fresh) (all : List AclRow) → rows_fit (is_literal f) all ≡ true
     → rows_fit can_be_level all ≡ true
-rows_can f [] h = refl
-rows_can f (row ∷ all) h =
-    let parts = and_parts (fits (is_literal f) (levels row.filter)) (rows_fit (is_literal f) all) h
-    in
-    and_from (fits can_be_level (levels row.filter)) (rows_fit can_be_level all)
-    (fits_mono (is_literal f) can_be_level (levels row.filter) (literal_can f) parts.0)
-    (rows_can f all parts.1)
+rows_can f all = all_by (λ row. fits (is_literal f) (levels row.filter))
+    (λ row. fits can_be_level (levels row.filter))
+    (λ row. fits_mono (is_literal f) can_be_level (levels row.filter) (literal_can f)) all
 
 -- what is found can be levels
-pub found_levels : (front kind : Bool) (both : BothFresh) (users : Literals) (clients : Clients)
-    (must cover : List AclRow) (found : Found) (w : Witness) → NamesNone both.plain must cover
+pub found_levels : {front kind : Bool} (both : BothFresh) (users : Literals) {clients : Clients}
+    {must cover : List AclRow} {found : Found} {w : Witness} → NamesNone both.plain must cover
     → AreFresh both.dollar → HasTexts found w
     → IsFoundBy front kind both (λ u. is_named u users) clients must cover found
     → AreLevels clients w
-found_levels front kind both users clients must cover found w none begun has h name =
+found_levels both users {must = must} none begun has h name =
     let pass = h.known can_be_level (fresh_can both.plain none.fresh) (fresh_can both.dollar begun)
     (rows_can both.plain must none.must_fits) name in (
       ap can_be_level has.client ∙ pass.client,

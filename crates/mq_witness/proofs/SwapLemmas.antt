@@ -1,23 +1,23 @@
 -- Two texts that no row names can stand in each other's place.
-use Rattle.std.proofs.Common.{◌≡◌, ℕ, ◌==◌, ◌<◌, Bool, true, false, cond, not, ◌&&◌, ◌||◌, List, []}
-use Rattle.std.proofs.Common.{◌∷◌, length, Option, Some, None, codes, bytes_eq, refl, ap, sym, ◌∙◌}
-use Rattle.std.proofs.Common.{map, subst, string_bytes, ◌++◌, Bor}
-use Rattle.std.specs.Prelude.{nat_le, All, Contains}
+use Rattle.std.proofs.Common.{◌≡◌, ℕ, ◌==◌, ◌<◌, Bool, true, false, not, ◌&&◌, ◌||◌, List, [], ◌∷◌}
+use Rattle.std.proofs.Common.{length, Option, Some, None, codes, bytes_eq, refl, ap, sym, ◌∙◌}
+use Rattle.std.proofs.Common.{arith, map, subst, string_bytes, ◌++◌, Bor}
+use Rattle.std.specs.Prelude.{All, Contains}
 use Rattle.std.specs.List.{list_all, list_any}
 use Rattle.std.specs.Cmp.{both_ways}
-use Rattle.std.proofs.lemmas.Bool.{and_parts, and_from, not-true, or_left, or_right}
+use Rattle.std.proofs.lemmas.Bool.{and_from, and_parts, cond-true, cond_both, false_from_ne_true}
+use Rattle.std.proofs.lemmas.Bool.{not-true}
 use Rattle.std.proofs.lemmas.List.{length-map}
-use Rattle.std.proofs.lemmas.List.Folds.{list_any-append}
+use Rattle.std.proofs.lemmas.List.Folds.{list_all-map, list_any-append}
 use Rattle.mq_topic.proofs.ByteLemmas.{text_is, text_itself}
 use Rattle.mq_topic.proofs.Walk.{levels-nonempty}
 use Rattle.mq_topic.specs.Levels.{levels}
 use Rattle.mq_topic.specs.Matching.{level_matches, levels_match_by}
-use Rattle.mq_topic.specs.Texts.{contains_byte, is_plain}
-use Rattle.mq_acl.specs.Access.{applies, begins_with_dollar, is_user}
-use Rattle.mq_acl.specs.Access.{row_level_matches}
+use Rattle.mq_topic.specs.Texts.{contains_byte}
+use Rattle.mq_acl.specs.Access.{applies, begins_with_dollar, is_user, row_level_matches}
 use Rattle.mq_acl.specs.Rows.{AclRow, Who}
 use Rattle.mq_acl.specs.Rows as rows
-use Rattle.mq_cover.specs.Names.{can_be_level, is_name_level, suits}
+use Rattle.mq_cover.specs.Names.{is_name_level, suits}
 use Rattle.mq_cover.specs.Remainders.{fits}
 use Rattle.mq_cover.specs.declared.start.Start.TheVariants.{Dollar}
 use Rattle.mq_cover.proofs.NameLemmas.{choice_is_level, suits_inside}
@@ -27,58 +27,46 @@ use Rattle.mq_witness.specs.Clients.{can_be_id, is_of}
 use Rattle.mq_witness.specs.Decided.{concerns_in, decides_in, may_begin}
 use Rattle.mq_witness.specs.Fresh.{is_literal, AreFresh}
 use Rattle.mq_witness.specs.FreshTexts.{IsSeen, fresh_texts}
-use Rattle.mq_witness.specs.Literals.{is_literal_in}
 use Rattle.mq_witness.specs.Ready.{CanAnswer}
 use Rattle.mq_witness.specs.Roots.{rows_fit}
-use Rattle.mq_witness.specs.Rows.{is_name_of, is_user_of, row_names, rows_name}
+use Rattle.mq_witness.specs.Rows.{is_user_of, row_names, rows_name}
 use Rattle.mq_witness.specs.Swaps.{is_apart, swap, swap_name, swap_user}
 use Rattle.mq_witness.specs.declared.clients.Clients.{Clients}
 use Rattle.mq_witness.specs.declared.clients.Clients.TheVariants.{Anonymous, Named, Others}
-use Rattle.mq_witness.specs.declared.fresh.BothFresh.{BothFresh}
 use Rattle.mq_witness.specs.declared.fresh.Fresh.{Fresh}
 use Rattle.mq_witness.specs.declared.literals.Literals.{Literals}
 use Rattle.mq_witness.specs.declared.texts.FreshTexts.{FreshTexts}
+use Rattle.mq_witness.proofs.FreshLemmas.{one_of}
 use Rattle.mq_witness.proofs.FreshMoves.{OthersAre, others_are}
 use Rattle.mq_witness.proofs.LimitLemmas.{user_is_named}
 use Rattle.mq_witness.proofs.LiteralLemmas.{fits_named}
-use Rattle.mq_witness.proofs.MoveLemmas.{all_pass, match_same}
-use Rattle.mq_witness.proofs.NameLemmas.{dollar_suits, joined_lacking, levels_without}
+use Rattle.mq_witness.proofs.MoveLemmas.{match_same}
+use Rattle.mq_witness.proofs.TestLemmas.{all_by, all_pass, all_same, any_same}
+use Rattle.mq_witness.proofs.NameLemmas.{dollar_suits, joined_lacking, levels_without, no_slash}
 use Rattle.mq_witness.proofs.ReadyLemmas.{all_contained}
 use Rattle.mq_witness.proofs.TriedLemmas.{level_can_be_id, literal_is_no_wildcard}
 
 -- ---- the swap
 swap_first : (a b : List ℕ) → swap a b a ≡ b
-swap_first a b = ap (λ t. cond t b (cond (bytes_eq a b) a a)) (text_itself a)
+swap_first a b = cond-true (bytes_eq a a) _ _ (text_itself a)
 
 swap_other : (a b l : List ℕ) → bytes_eq l a ≡ false → bytes_eq l b ≡ false → swap a b l ≡ l
 swap_other a b l e f = rw (e, f) refl
 
 swap_second : (a b : List ℕ) → swap a b b ≡ a
-swap_second a b = at (bytes_eq b a) refl
-  where
-    at : (t : Bool) → bytes_eq b a ≡ t → swap a b b ≡ a
-    at true e = ap (λ t. cond t b (cond (bytes_eq b b) a b)) e ∙ text_is b a e
-    at false e = ap (λ t. cond t b (cond (bytes_eq b b) a b)) e
-        ∙ ap (λ t. cond t a b) (text_itself b)
+swap_second a b = cond_both (bytes_eq b a) b _ (λ t. t ≡ a) (text_is b a)
+    (λ e. cond-true (bytes_eq b b) _ _ (text_itself b))
 
 -- what holds of both, and of a text that is neither, holds of the swapped text
 pub swap_cases : (a b l : List ℕ) (P : List ℕ → Type 0) → P a → P b → P l → P (swap a b l)
-swap_cases a b l P pa pb pl = at (bytes_eq l a) (bytes_eq l b)
-  where
-    at : (s t : Bool) → P (cond s b (cond t a l))
-    at true t = pb
-    at false true = pa
-    at false false = pl
+swap_cases a b l P pa pb pl = cond_both (bytes_eq l a) _ _ P (λ e. pb)
+    (λ e. cond_both (bytes_eq l b) _ _ P (λ f. pa) (λ f. pl))
 
 swap_twice : (a b l : List ℕ) → swap a b (swap a b l) ≡ l
-swap_twice a b l = at (bytes_eq l a) refl (bytes_eq l b) refl
-  where
-    at : (s : Bool) → bytes_eq l a ≡ s → (t : Bool) → bytes_eq l b ≡ t → swap a b (swap a b l) ≡ l
-    at true e t f = ap (λ k. swap a b (swap a b k)) (text_is l a e) ∙ ap (swap a b) (swap_first a b)
-        ∙ swap_second a b ∙ sym (text_is l a e)
-    at false e true f = ap (λ k. swap a b (swap a b k)) (text_is l b f)
-        ∙ ap (swap a b) (swap_second a b) ∙ swap_first a b ∙ sym (text_is l b f)
-    at false e false f = ap (swap a b) (swap_other a b l e f) ∙ swap_other a b l e f
+swap_twice a b l = cond_both (bytes_eq l a) _ _ (λ t. swap a b t ≡ l)
+    (λ e. swap_second a b ∙ sym (text_is l a e))
+    (λ e. cond_both (bytes_eq l b) _ _ (λ t. swap a b t ≡ l)
+    (λ f. swap_first a b ∙ sym (text_is l b f)) (λ f. swap_other a b l e f))
 
 swap_eq : (a b l m : List ℕ) → bytes_eq (swap a b l) (swap a b m) ≡ bytes_eq l m
 swap_eq a b l m = both_ways (bytes_eq (swap a b l) (swap a b m)) (bytes_eq l m)
@@ -89,8 +77,8 @@ swap_eq a b l m = both_ways (bytes_eq (swap a b l) (swap a b m)) (bytes_eq l m)
 -- a swap leaves a text that is apart from both
 swap_apart : (a b l : List ℕ) → is_apart a b l ≡ true → swap a b l ≡ l
 swap_apart a b l h =
-    let parts = and_parts (not (bytes_eq l a)) (not (bytes_eq l b)) h in
-    swap_other a b l (not-true (bytes_eq l a) parts.0) (not-true (bytes_eq l b) parts.1)
+    let parts = and_parts (not (bytes_eq l a)) _ h in
+    swap_other a b l (not-true _ parts.0) (not-true _ parts.1)
 
 -- a text that is apart is a swapped one just where it is the text
 swap_same : (a b l w : List ℕ) → is_apart a b w ≡ true → bytes_eq w (swap a b l) ≡ bytes_eq w l
@@ -124,12 +112,7 @@ module _ (a b : List ℕ) where
 
   matches_swapped : (w l : List ℕ) → (bytes_eq w (codes "+") || is_apart a b w) ≡ true
       → level_matches w l ≡ level_matches w (swap a b l)
-  matches_swapped w l h = at (bytes_eq w (codes "+")) h
-    where
-      at : (t : Bool) → (t || is_apart a b w) ≡ true
-          → (t || bytes_eq w l) ≡ (t || bytes_eq w (swap a b l))
-      at true e = refl
-      at false e = sym (swap_same a b l w e)
+  matches_swapped w l h = grind (arith, swap_same)
 
   level_swapped : (who : Who) (client : List ℕ) (user : Option (List ℕ)) (w l : List ℕ)
       → (bytes_eq w (codes "+") || is_apart a b w) ≡ true
@@ -137,16 +120,8 @@ module _ (a b : List ℕ) where
       ≡ row_level_matches who (swap a b client) (swap_user a b user) w (swap a b l)
   level_swapped rows.Anonymous client user w l h = matches_swapped w l h
   level_swapped (rows.Named n) client user w l h = matches_swapped w l h
-  level_swapped rows.Everyone client user w l h = at (bytes_eq w (codes "%c"))
-      (bytes_eq w (codes "%u"))
-    where
-      at : (c u : Bool)
-          → cond c (bytes_eq l client) (cond u (is_user l user) (level_matches w l))
-          ≡ cond c (bytes_eq (swap a b l) (swap a b client))
-          (cond u (is_user (swap a b l) (swap_user a b user)) (level_matches w (swap a b l)))
-      at true u = sym (swap_eq a b l client)
-      at false true = user_swapped l user
-      at false false = matches_swapped w l h
+  level_swapped rows.Everyone client user w l h =
+      grind (arith, swap_eq, user_swapped, matches_swapped)
 
 -- two texts, both without `/`, that begin with `$` or both don't
 record AreAlike (a b : List ℕ) : Type 0 where
@@ -155,32 +130,24 @@ record AreAlike (a b : List ℕ) : Type 0 where
   pub other_slash : not (contains_byte 47 b) ≡ true
 
 module _ (front : Bool) (a b : List ℕ) (alike : AreAlike a b) where
-  swapped_lack : (ls : List (List ℕ)) → list_all (λ l. not (contains_byte 47 l)) ls ≡ true
-      → list_all (λ l. not (contains_byte 47 l)) (map (swap a b) ls) ≡ true
-  swapped_lack [] h = refl
-  swapped_lack (l ∷ ls) h =
-      let parts = and_parts (not (contains_byte 47 l))
-      (list_all (λ l. not (contains_byte 47 l)) ls) h in
-      and_from (not (contains_byte 47 (swap a b l)))
-      (list_all (λ l. not (contains_byte 47 l)) (map (swap a b) ls))
-      (swap_cases a b l (λ t. not (contains_byte 47 t) ≡ true) alike.slash alike.other_slash
-      parts.0)
-      (swapped_lack ls parts.1)
+  lacks : (l : List ℕ) → not (contains_byte 47 l) ≡ true
+      → not (contains_byte 47 (swap a b l)) ≡ true
+  lacks l = swap_cases a b l (λ t. not (contains_byte 47 t) ≡ true) alike.slash alike.other_slash
 
   -- the levels of a name that is swapped are its levels, swapped
   levels_swapped : (name : List ℕ) → levels (swap_name a b name) ≡ map (swap a b) (levels name)
   levels_swapped name = joined_lacking (map (swap a b) (levels name))
       (subst (λ n. 0 < n) (sym (length-map (levels name) (swap a b))) (levels-nonempty name))
-      (swapped_lack (levels name) (levels_without name))
+      (list_all-map (λ l. not (contains_byte 47 l)) (swap a b) (levels name)
+      ∙ all_by (λ l. not (contains_byte 47 l)) (λ l. not (contains_byte 47 (swap a b l))) lacks
+      (levels name) (levels_without name))
 
   begins_swapped : (l : List ℕ) → begins_with_dollar (swap a b l) ≡ begins_with_dollar l
-  begins_swapped l = at (bytes_eq l a) refl (bytes_eq l b) refl
-    where
-      at : (s : Bool) → bytes_eq l a ≡ s → (t : Bool) → bytes_eq l b ≡ t
-          → begins_with_dollar (cond s b (cond t a l)) ≡ begins_with_dollar l
-      at true e t g = alike.dollar ∙ ap begins_with_dollar (sym (text_is l a e))
-      at false e true g = sym alike.dollar ∙ ap begins_with_dollar (sym (text_is l b g))
-      at false e false g = refl
+  begins_swapped l =
+      cond_both (bytes_eq l a) _ _ (λ t. begins_with_dollar t ≡ begins_with_dollar l)
+      (λ e. alike.dollar ∙ ap begins_with_dollar (sym (text_is l a e)))
+      (λ e. cond_both (bytes_eq l b) _ _ (λ t. begins_with_dollar t ≡ begins_with_dollar l)
+      (λ g. sym alike.dollar ∙ ap begins_with_dollar (sym (text_is l b g))) (λ g. refl))
 
   suits_swapped : (ls : List (List ℕ)) → suits Dollar (map (swap a b) ls) ≡ suits Dollar ls
   suits_swapped [] = refl
@@ -196,7 +163,7 @@ module _ (front : Bool) (a b : List ℕ) (alike : AreAlike a b) where
       → row_apart a b row ≡ true → concerns_in front client user name row
       ≡ concerns_in front (swap a b client) (swap_user a b user) (swap_name a b name) row
   concerns_swapped client name user row h =
-      let parts = and_parts (fits (is_apart a b) (levels row.filter)) (who_apart a b row.who) h in
+      let parts = and_parts (fits (is_apart a b) (levels row.filter)) _ h in
       let matched = match_same (row_level_matches row.who client user)
       (row_level_matches row.who (swap a b client) (swap_user a b user)) (swap a b) (is_apart a b)
       (λ l. true) (λ w l e k. level_swapped a b row.who client user w l e) (levels row.filter)
@@ -206,68 +173,31 @@ module _ (front : Bool) (a b : List ℕ) (alike : AreAlike a b) where
       (λ i. applies_swapped a b user row.who parts.1 i
       && ((not (dollar_swapped name i) || may_begin front row) && matched i))
 
-  all_swapped : (client name : List ℕ) (user : Option (List ℕ)) (all : List AclRow)
-      → list_all (row_apart a b) all ≡ true → list_all (concerns_in front client user name) all
-      ≡ list_all (concerns_in front (swap a b client) (swap_user a b user) (swap_name a b name)) all
-  all_swapped client name user [] h = refl
-  all_swapped client name user (row ∷ all) h =
-      let parts = and_parts (row_apart a b row) (list_all (row_apart a b) all) h in
-      (λ i. concerns_swapped client name user row parts.0 i
-      && all_swapped client name user all parts.1 i)
-
-  any_swapped : (client name : List ℕ) (user : Option (List ℕ)) (all : List AclRow)
-      → list_all (row_apart a b) all ≡ true → list_any (concerns_in front client user name) all
-      ≡ list_any (concerns_in front (swap a b client) (swap_user a b user) (swap_name a b name)) all
-  any_swapped client name user [] h = refl
-  any_swapped client name user (row ∷ all) h =
-      let parts = and_parts (row_apart a b row) (list_all (row_apart a b) all) h in
-      (λ i. concerns_swapped client name user row parts.0 i
-      || any_swapped client name user all parts.1 i)
-
   decides_swapped : (client name : List ℕ) (user : Option (List ℕ)) (must cover : List AclRow)
       → list_all (row_apart a b) must ≡ true → list_all (row_apart a b) cover ≡ true
       → decides_in front client user name must cover
       ≡ decides_in front (swap a b client) (swap_user a b user) (swap_name a b name) must cover
   decides_swapped client name user must cover h g =
-      (λ i. all_swapped client name user must h i && not (any_swapped client name user cover g i))
+      λ i. all_same (row_apart a b) _ _ (concerns_swapped client name user) must h i
+      && not (any_same (row_apart a b) _ _ (concerns_swapped client name user) cover g i)
 
 -- ---- texts that no row names
 unnamed_differs : (all : List AclRow) (a l : List ℕ) → rows_name a all ≡ false
     → rows_name l all ≡ true → not (bytes_eq l a) ≡ true
-unnamed_differs all a l n h = at (bytes_eq l a) refl
-  where
-    at : (t : Bool) → bytes_eq l a ≡ t → not t ≡ true
-    at true e = absurd (let k : true ≡ false =
-        sym h ∙ ap (λ t. rows_name t all) (text_is l a e) ∙ n in cc)
-    at false e = refl
+unnamed_differs all a l n h = ap not (false_from_ne_true _ (λ e. let k : true ≡ false =
+    sym h ∙ ap (λ t. rows_name t all) (text_is l a e) ∙ n in cc))
 
 module _ (f : Fresh) (a b : List ℕ) where
   one_apart : (row : AclRow) → fits (is_literal f) (levels row.filter) ≡ true
       → ((l : List ℕ) → row_names l row ≡ true → is_apart a b l ≡ true)
       → row_apart a b row ≡ true
-  one_apart row fit h =
-      and_from (fits (is_apart a b) (levels row.filter)) (who_apart a b row.who)
-      (fits_named (is_literal f) (is_apart a b) (literal_is_no_wildcard f) (levels row.filter) fit
-      (λ l k i. h l (or_left (is_literal_in l (levels row.filter)) (is_name_of l row.who) i)))
-      (by row.who (λ l i. h l (or_right (is_literal_in l (levels row.filter))
-      (is_name_of l row.who) i)))
-    where
-      by : (who : Who) → ((l : List ℕ) → is_name_of l who ≡ true → is_apart a b l ≡ true)
-          → who_apart a b who ≡ true
-      by rows.Anonymous k = refl
-      by (rows.Named n) k = k n (text_itself n)
-      by rows.Everyone k = refl
+  one_apart row fit h = grind (arith, fits_named, literal_is_no_wildcard, text_itself)
 
   all_apart : (all : List AclRow) → rows_fit (is_literal f) all ≡ true
       → ((l : List ℕ) → rows_name l all ≡ true → is_apart a b l ≡ true)
       → list_all (row_apart a b) all ≡ true
   all_apart [] fit h = refl
-  all_apart (row ∷ all) fit h =
-      let parts = and_parts (fits (is_literal f) (levels row.filter)) (rows_fit (is_literal f) all)
-      fit in
-      and_from (row_apart a b row) (list_all (row_apart a b) all)
-      (one_apart row parts.0 (λ l i. h l (or_left (row_names l row) (rows_name l all) i)))
-      (all_apart all parts.1 (λ l i. h l (or_right (row_names l row) (rows_name l all) i)))
+  all_apart (row ∷ all) fit h = grind (arith, all_apart all, one_apart)
 
 -- ---- placeholders
 -- a placeholder can be a level, and is not empty
@@ -277,49 +207,39 @@ pub record IsPlaceholder (text : List ℕ) : Type 0 where
 
 placeholder_is : (t : FreshTexts) (f : Fresh) → AreFresh f → IsSeen t f → (text : List ℕ)
     → list_any (bytes_eq text) (fresh_texts t) ≡ true → IsPlaceholder text
-placeholder_is t f fresh seen text h =
-    or_cases (bytes_eq text (string_bytes t.plain)) _ h
-    (λ e. same (string_bytes t.plain) e f.others.plain.now seen.plain
-    (made f.others.plain.now others.plain_level others.plain_some))
-    (λ k. or_cases (bytes_eq text (string_bytes t.dollar)) _ k
-    (λ e. same (string_bytes t.dollar) e f.others.dollar.now seen.dollar
-    (made f.others.dollar.now others.dollar_level others.dollar_some))
-    (λ k. or_cases (bytes_eq text (string_bytes t.client)) _ k
-    (λ e. same (string_bytes t.client) e f.client.now seen.client
-    (made f.client.now (choice_is_level f.others f.client.now fresh.client.choice)
-    fresh.client.some))
-    (λ k. or_cases (bytes_eq text (string_bytes t.user)) false k
-    (λ e. same (string_bytes t.user) e f.user.now seen.user
-    (made f.user.now (choice_is_level f.others f.user.now fresh.user.choice) fresh.user.some))
-    (λ e. absurd (let n : false ≡ true = e in cc)))))
+placeholder_is t f fresh seen text =
+    one_of t text IsPlaceholder
+    (same f.others.plain.now seen.plain others.plain_level others.plain_some)
+    (same f.others.dollar.now seen.dollar others.dollar_level others.dollar_some)
+    (same f.client.now seen.client (choice_is_level f.others f.client.now fresh.client.choice)
+    fresh.client.some)
+    (same f.user.now seen.user (choice_is_level f.others f.user.now fresh.user.choice)
+    fresh.user.some)
   where
     others : OthersAre f
     others = others_are f fresh
 
-    made : (id : List ℕ) → is_name_level id ≡ true → (length id == 0) ≡ false → IsPlaceholder id
-    made id level some = record { level = level; id = level_can_be_id id level some }
-
-    same : (s : List ℕ) → bytes_eq text s ≡ true → (id : List ℕ) → id ≡ s → IsPlaceholder id
-        → IsPlaceholder text
-    same s e id g m = subst IsPlaceholder (g ∙ sym (text_is text s e)) m
+    same : (id : List ℕ) {s : List ℕ} → id ≡ s → is_name_level id ≡ true
+        → (length id == 0) ≡ false → IsPlaceholder s
+    same id is level some =
+        subst IsPlaceholder is (record { level = level; id = level_can_be_id id level some })
 
 -- each placeholder is among those of the one kind or the other, and no row names it
-pub both_made : (asked : AskedRows) (texts dollar longest : FreshTexts) (users : Literals)
-    (both : BothFresh) → CanAnswer asked.rows texts dollar longest users
-    → asked.placeholders ≡ fresh_texts texts ++ fresh_texts dollar → IsSeen texts both.plain
-    → IsSeen dollar both.dollar → (text : List ℕ) → is_placeholder text asked ≡ true
+pub both_made : (asked : AskedRows) {texts dollar longest : FreshTexts} {users : Literals}
+    {plain begin : Fresh} → CanAnswer asked.rows texts dollar longest users
+    → asked.placeholders ≡ fresh_texts texts ++ fresh_texts dollar → IsSeen texts plain
+    → IsSeen dollar begin → (text : List ℕ) → is_placeholder text asked ≡ true
     → IsPlaceholder text × (rows_name text asked.rows ≡ false)
-both_made asked texts dollar longest users both can made seen begun text h =
-    or_cases (list_any (bytes_eq text) (fresh_texts texts))
-    (list_any (bytes_eq text) (fresh_texts dollar))
+both_made asked {texts} {dollar} {longest} {users} {plain} {begin} can made seen begun text h =
+    or_cases (list_any (bytes_eq text) (fresh_texts texts)) _
     (sym (ap (list_any (bytes_eq text)) made
     ∙ list_any-append (bytes_eq text) (fresh_texts texts) (fresh_texts dollar)) ∙ h)
     (λ e. (
-      placeholder_is texts both.plain (can.asked_can.fresh both.plain seen) seen text e,
+      placeholder_is texts plain (can.asked_can.fresh plain seen) seen text e,
       can.asked_can.unnamed text e,
     ))
     (λ e. (
-      placeholder_is dollar both.dollar (can.dollar_can.fresh both.dollar begun) begun text e,
+      placeholder_is dollar begin (can.dollar_can.fresh begin begun) begun text e,
       can.dollar_can.unnamed text e,
     ))
 
@@ -337,18 +257,12 @@ lent_texts t = record {
 texts_seen : (t : FreshTexts) → IsSeen t (lent_texts t)
 texts_seen t = record { plain = refl; dollar = refl; client = refl; user = refl }
 
-pub all_made : (asked : AskedRows) (texts dollar longest : FreshTexts) (users : Literals)
+pub all_made : (asked : AskedRows) {texts dollar longest : FreshTexts} {users : Literals}
     → CanAnswer asked.rows texts dollar longest users
     → asked.placeholders ≡ fresh_texts texts ++ fresh_texts dollar → (text : List ℕ)
     → is_placeholder text asked ≡ true → IsPlaceholder text × (rows_name text asked.rows ≡ false)
-all_made asked texts dollar longest users can made text h =
-    both_made asked texts dollar longest users
-    (record { plain = lent_texts texts; dollar = lent_texts dollar }) can made (texts_seen texts)
-    (texts_seen dollar) text h
-
--- a level has no `/`
-no_slash : (l : List ℕ) → can_be_level l ≡ true → not (contains_byte 47 l) ≡ true
-no_slash l h = (and_parts (is_plain l && not (contains_byte 0 l)) (not (contains_byte 47 l)) h).1
+all_made asked {texts} {dollar} can made =
+    both_made asked can made (texts_seen texts) (texts_seen dollar)
 
 -- ---- whoever is asked about
 swapped_client : (asked : AskedRows) (clients : Clients) (a b : List ℕ) (user : Option (List ℕ))
@@ -360,51 +274,43 @@ swapped_client asked Anonymous a b None na nb ia ib listed h = h
 swapped_client asked Anonymous a b (Some u) na nb ia ib listed h = h
 swapped_client asked (Named name) a b None na nb ia ib listed h = h
 swapped_client asked (Named name) a b (Some u) na nb ia ib listed h =
-    let is = text_is u name.now (and_parts (bytes_eq u name.now) (can_be_id u) h).0 in
+    let is = text_is u name.now (and_parts _ _ h).0 in
     let named = ap (λ t. rows_name t asked.rows) is ∙ user_is_named asked.rows name.now listed in
     ap (λ t. bytes_eq t name.now && can_be_id t)
-    (swap_apart a b u (and_from (not (bytes_eq u a)) (not (bytes_eq u b))
+    (swap_apart a b u (and_from _ _
     (unnamed_differs asked.rows a u na named) (unnamed_differs asked.rows b u nb named))) ∙ h
 swapped_client asked Others a b None na nb ia ib listed h = h
 swapped_client asked Others a b (Some u) na nb ia ib listed h =
-    swap_cases a b u (λ t. (can_be_id t && not (is_user_of t asked.rows)) ≡ true)
-    (other a ia na) (other b ib nb) h
-  where
-    other : (t : List ℕ) → can_be_id t ≡ true → rows_name t asked.rows ≡ false
-        → (can_be_id t && not (is_user_of t asked.rows)) ≡ true
-    other t i n = and_from (can_be_id t) (not (is_user_of t asked.rows)) i
-        (ap not (false_is (is_user_of t asked.rows) (rows_name t asked.rows)
-        (user_is_named asked.rows t) n))
+    grind (arith, swap_cases, false_is, user_is_named)
 
 -- what is shown is shown with any text in the place of one that stands for it
-module _ (asked : AskedRows) (f : Fresh) (fit : rows_fit (is_literal f) asked.rows ≡ true)
-    (clients : Clients) (must cover : List AclRow) where
-  pub shows_others : (front : Bool)
-      → ((text : List ℕ) → is_placeholder text asked ≡ true
-      → IsPlaceholder text × (rows_name text asked.rows ≡ false))
-      → IsListed asked clients → All (Contains asked.rows) must
-      → All (Contains asked.rows) cover → (client : List ℕ) (user : Option (List ℕ))
-      → (name : List ℕ) → IsShownIn front asked clients must cover client user name
-      → ShowsOthersIn front asked clients must cover client user name
-  shows_others front made listed must_in cover_in client user name shown a b stands valid =
-      let first = (made a stands.placeholder).0 in
-      let unnamed = (made a stands.placeholder).1 in
-      let alike : AreAlike a b = record {
-        dollar = stands.dollar;
-        slash = no_slash a (and_parts (can_be_level a) (nat_le (length a) 321) first.level).0;
-        other_slash = no_slash b stands.level;
-      } in
-      let apart = all_apart f a b asked.rows fit
-      (λ l i. and_from (not (bytes_eq l a)) (not (bytes_eq l b))
-      (unnamed_differs asked.rows a l unnamed i)
-      (unnamed_differs asked.rows b l stands.unnamed i)) in
-      record {
-        client_fits = swap_cases a b client (λ t. can_be_id t ≡ true) first.id stands.id
-            shown.client_fits;
-        user_fits = swapped_client asked clients a b user unnamed stands.unnamed first.id stands.id
-            listed shown.user_fits;
-        valid = valid;
-        decided = sym (decides_swapped front a b alike client name user must cover
-            (all_contained (row_apart a b) asked.rows must apart must_in)
-            (all_contained (row_apart a b) asked.rows cover apart cover_in)) ∙ shown.decided;
-      }
+pub shows_others : (asked : AskedRows) (f : Fresh) {clients : Clients} {must cover : List AclRow}
+    {front : Bool} {client : List ℕ} {user : Option (List ℕ)} {name : List ℕ}
+    → rows_fit (is_literal f) asked.rows ≡ true
+    → ((text : List ℕ) → is_placeholder text asked ≡ true
+    → IsPlaceholder text × (rows_name text asked.rows ≡ false))
+    → IsListed asked clients → All (Contains asked.rows) must → All (Contains asked.rows) cover
+    → IsShownIn front asked clients must cover client user name
+    → ShowsOthersIn front asked clients must cover client user name
+shows_others asked f {clients} {must} {cover} {front} {client} {user} {name} fit made listed must_in
+    cover_in shown a b stands valid =
+    let first = (made a stands.placeholder).0 in
+    let unnamed = (made a stands.placeholder).1 in
+    let alike : AreAlike a b = record {
+      dollar = stands.dollar;
+      slash = no_slash a (and_parts _ _ first.level).0;
+      other_slash = no_slash b stands.level;
+    } in
+    let apart = all_apart f a b asked.rows fit
+    (λ l i. and_from _ _ (unnamed_differs asked.rows a l unnamed i)
+    (unnamed_differs asked.rows b l stands.unnamed i)) in
+    record {
+      client_fits = swap_cases a b client (λ t. can_be_id t ≡ true) first.id stands.id
+          shown.client_fits;
+      user_fits = swapped_client asked clients a b user unnamed stands.unnamed first.id stands.id
+          listed shown.user_fits;
+      valid = valid;
+      decided = sym (decides_swapped front a b alike client name user must cover
+          (all_contained (row_apart a b) asked.rows must apart must_in)
+          (all_contained (row_apart a b) asked.rows cover apart cover_in)) ∙ shown.decided;
+    }

@@ -1,35 +1,33 @@
 -- The topics of one client.
-use Rattle.std.proofs.Common.{◌≡◌, ℕ, Bool, true, false, cond, not, ◌&&◌, ◌||◌, List, [], ◌∷◌}
-use Rattle.std.proofs.Common.{length, Option, Some, None, codes, bytes_eq, refl, ap, sym, ◌∙◌, subst}
-use Rattle.std.specs.List.{list_all, list_any}
-use Rattle.std.proofs.lemmas.Bool.{and_parts, and_from, and_left, leb-true}
-use Rattle.std.proofs.lemmas.List.{map-id}
-use Rattle.mq_topic.specs.Levels.{levels, levels_left}
-use Rattle.mq_topic.specs.Matching.{level_matches, levels_match_by}
+use Rattle.std.proofs.Common.{◌≡◌, ℕ, Bool, true, false, cond, ◌&&◌, List, length, Option, Some}
+use Rattle.std.proofs.Common.{None, codes, bytes_eq, refl, ap, sym, ◌∙◌, subst, inl, inr}
+use Rattle.std.specs.List.{list_all}
+use Rattle.std.proofs.lemmas.Bool.{and_from, and_left, and_parts, cases_Bool, cond_both, leb-true}
+use Rattle.mq_topic.specs.Levels.{levels}
+use Rattle.mq_topic.specs.Matching.{level_matches}
 use Rattle.mq_topic.specs.Texts.{is_name}
-use Rattle.mq_acl.specs.Access.{begins_with_dollar, concerns}
+use Rattle.mq_acl.specs.Access.{begins_with_dollar}
 use Rattle.mq_acl.specs.Rows.{AclRow}
 use Rattle.mq_cover.specs.Names.{can_be_level, is_choice, start_of}
-use Rattle.mq_cover.specs.Remainders.{FindsNothing, covers, fits, hits, mark_passes}
-use Rattle.mq_cover.specs.Remainders.{MarkLevels, passes}
+use Rattle.mq_cover.specs.Remainders.{FindsNothing, fits, hits, mark_passes, MarkLevels, passes}
 use Rattle.mq_cover.specs.declared.remainder.Remainder.{Remainder}
 use Rattle.mq_witness.specs.Answers.{Asks, IsHit}
 use Rattle.mq_witness.specs.Decided.{decides}
 use Rattle.mq_witness.specs.Fresh.{is_literal}
 use Rattle.mq_witness.specs.FreshTexts.{AreLonger, AreShort, IsPadded, IsSeen}
-use Rattle.mq_witness.specs.Limits.{is_short, is_short_level, short_who, usable}
+use Rattle.mq_witness.specs.Limits.{is_short, is_short_level, usable}
 use Rattle.mq_witness.specs.Roots.{NoneConcerned, marks_of, rows_fit}
 use Rattle.mq_witness.specs.Texts.{level_of}
-use Rattle.mq_witness.specs.Topics.{AreWithin, FindsNoTopic, IsReadyFor, IsTopic}
-use Rattle.mq_witness.specs.Topics.{level_marks}
+use Rattle.mq_witness.specs.Topics.{AreWithin, FindsNoTopic, IsReadyFor, IsTopic, level_marks}
 use Rattle.mq_witness.specs.declared.fresh.Fresh.{Fresh}
 use Rattle.mq_witness.specs.declared.question.Question.{Question}
 use Rattle.mq_witness.specs.declared.texts.FreshTexts.{FreshTexts}
-use Rattle.mq_witness.proofs.AnswerLemmas.{alike_self, any_fits, same_user}
+use Rattle.mq_witness.proofs.AnswerLemmas.{alike_self, same_user}
 use Rattle.mq_witness.proofs.FreshLemmas.{client_begins, named_is_literal, seen_fresh}
 use Rattle.mq_witness.proofs.FreshMoves.{literal_is_choice}
 use Rattle.mq_witness.proofs.LiteralLemmas.{fits_mono}
-use Rattle.mq_witness.proofs.MoveLemmas.{match_same}
+use Rattle.mq_witness.proofs.MoveLemmas.{hits_same}
+use Rattle.mq_witness.proofs.TestLemmas.{all_by}
 use Rattle.mq_witness.proofs.NameLemmas.{name_is, name_suits}
 use Rattle.mq_witness.proofs.ReadyLemmas.{short_is_name}
 
@@ -46,32 +44,13 @@ pub marks_are : (c u : Option (List ℕ)) (client : List ℕ) (user : Option (Li
     → record { client = c; user = u } ≡ level_marks client user
 marks_are c u client user e g = λ i. record { client = e i; user = g i }
 
-module _ (client : List ℕ) (user : Option (List ℕ)) (ls : List (List ℕ))
-    (can : list_all can_be_level ls ≡ true) where
-  both_covers : (r : Remainder) → covers (marks_of client user) ls r
-      ≡ covers (level_marks client user) ls r
-  both_covers r =
-      match_same (passes r.pattern (marks_of client user))
-      (passes r.pattern (level_marks client user)) (λ l. l) (λ w. true) can_be_level
-      (λ w l e k. both_passes r.pattern client user w l k) (levels_left r.rest) ls
-      (any_fits (levels_left r.rest)) can
-      ∙ ap (levels_match_by (passes r.pattern (level_marks client user)) (levels_left r.rest))
-      (map-id ls)
-
-  both_all : (rs : List Remainder) → list_all (covers (marks_of client user) ls) rs
-      ≡ list_all (covers (level_marks client user) ls) rs
-  both_all [] = refl
-  both_all (r ∷ rs) = (λ i. both_covers r i && both_all rs i)
-
-  both_any : (rs : List Remainder) → list_any (covers (marks_of client user) ls) rs
-      ≡ list_any (covers (level_marks client user) ls) rs
-  both_any [] = refl
-  both_any (r ∷ rs) = (λ i. both_covers r i || both_any rs i)
-
-  -- whether a name is hit depends on the ids only as levels, where they can be such
-  both_hits : (must cover : List Remainder) → hits (marks_of client user) ls must cover
-      ≡ hits (level_marks client user) ls must cover
-  both_hits must cover = (λ i. both_all must i && not (both_any cover i))
+-- whether a name is hit depends on the ids only as levels, where they can be such
+both_hits : (client : List ℕ) (user : Option (List ℕ)) (ls : List (List ℕ))
+    → list_all can_be_level ls ≡ true → (must cover : List Remainder)
+    → hits (marks_of client user) ls must cover ≡ hits (level_marks client user) ls must cover
+both_hits client user ls can =
+    hits_same can_be_level (marks_of client user) (level_marks client user)
+    (λ pattern. both_passes pattern client user) ls can
 
 -- ---- what a question answers
 -- where a row concerns none of the names
@@ -80,12 +59,10 @@ pub no_topic : (client : List ℕ) (user : Option (List ℕ)) (dollar : Bool)
     → is_name name ≡ true → begins_with_dollar name ≡ dollar
     → decides client user name must cover ≡ false
 no_topic client user dollar must cover none name valid kind =
-    and_left (list_all (concerns client user name) must)
-    (not (list_any (concerns client user name) cover))
-    (none client name user (alike_self user must) kind)
+    and_left _ _ (none client name user (alike_self user must) kind)
 
-module _ (f : Fresh) (client : List ℕ) (user : Option (List ℕ)) (dollar : Bool)
-    (must cover : List AclRow) (q : Question)
+module _ {f : Fresh} (client : List ℕ) {user : Option (List ℕ)} {dollar : Bool}
+    {must cover : List AclRow} {q : Question}
     (asks : Asks false (record { plain = f; dollar = f }) user dollar must cover q) where
   decided_is : (name : List ℕ) → is_name name ≡ true → begins_with_dollar name ≡ dollar
       → decides client user name must cover
@@ -121,28 +98,20 @@ module _ (longest : FreshTexts) (f : Fresh) (longer : AreLonger longest)
     (seen : IsSeen longest f) where
   short_literal : (l : List ℕ) → is_short_level l ≡ true → is_literal f l ≡ true
   short_literal l h = named_is_literal false longest f is_short short_size (longer is_short) seen l
-      (short_is_name l h) (and_parts (can_be_level l) (is_short l) h).1
+      (short_is_name l h) (and_parts _ _ h).1
 
   short_rows : (rows : List AclRow) → rows_fit is_short_level rows ≡ true
       → rows_fit (is_literal f) rows ≡ true
-  short_rows [] h = refl
-  short_rows (row ∷ rows) h =
-      let parts = and_parts (fits is_short_level (levels row.filter))
-      (rows_fit is_short_level rows) h in
-      and_from (fits (is_literal f) (levels row.filter)) (rows_fit (is_literal f) rows)
-      (fits_mono is_short_level (is_literal f) (levels row.filter) short_literal parts.0)
-      (short_rows rows parts.1)
+  short_rows rows = all_by (λ row. fits is_short_level (levels row.filter))
+      (λ row. fits (is_literal f) (levels row.filter))
+      (λ row. fits_mono is_short_level (is_literal f) (levels row.filter) short_literal) rows
 
   short_mark : (user : Option (List ℕ)) → mark_passes is_short user ≡ true
       → mark_passes (is_choice f.others) (level_of user) ≡ true
   short_mark None h = refl
-  short_mark (Some u) h = at (can_be_level u) refl
-    where
-      at : (b : Bool) → can_be_level u ≡ b
-          → mark_passes (is_choice f.others) (cond b (Some u) None) ≡ true
-      at false e = refl
-      at true e = literal_is_choice f u
-          (short_literal u (and_from (can_be_level u) (is_short u) e h))
+  short_mark (Some u) h =
+      cond_both (can_be_level u) _ _ (λ m. mark_passes (is_choice f.others) m ≡ true)
+      (λ e. literal_is_choice f u (short_literal u (and_from _ _ e h))) (λ e. refl)
 
   -- what keeps to the limit names none of them
   pub ready_for : (client : List ℕ) (user : Option (List ℕ)) (must cover : List AclRow)
@@ -152,23 +121,14 @@ module _ (longest : FreshTexts) (f : Fresh) (longer : AreLonger longest)
     names_none = record {
       fresh = seen_fresh false longest f is_short (longer is_short) seen;
       must_fits = short_rows must within.must_short;
-      cover_fits = short_rows cover (levels_usable cover cover_usable);
+      cover_fits = short_rows cover (all_by usable (λ row. fits is_short_level (levels row.filter))
+          (λ row h. (and_parts _ _ h).0) cover cover_usable);
     };
     begin = client_begins false f.client.now
         (subst (IsPadded (codes "client")) (sym seen.client) (longer is_short).client.made);
-    marks_fit = and_from (mark_passes (is_choice f.others) (level_of (Some client)))
-        (mark_passes (is_choice f.others) (level_of user))
-        (short_mark (Some client) within.client_short) (short_mark user within.user_short);
+    marks_fit = and_from _ _ (short_mark (Some client) within.client_short)
+        (short_mark user within.user_short);
   }
-    where
-      levels_usable : (rows : List AclRow) → list_all usable rows ≡ true
-          → rows_fit is_short_level rows ≡ true
-      levels_usable [] h = refl
-      levels_usable (row ∷ rows) h =
-          let parts = and_parts (usable row) (list_all usable rows) h in
-          and_from (fits is_short_level (levels row.filter)) (rows_fit is_short_level rows)
-          (and_parts (fits is_short_level (levels row.filter)) (short_who row.who) parts.0).0
-          (levels_usable rows parts.1)
 
 -- ---- both kinds of names
 pub both_kinds : (client : List ℕ) (user : Option (List ℕ)) (must cover : List AclRow)
@@ -177,8 +137,8 @@ pub both_kinds : (client : List ℕ) (user : Option (List ℕ)) (must cover : Li
     → ((name : List ℕ) → is_name name ≡ true → begins_with_dollar name ≡ true
     → decides client user name must cover ≡ false)
     → FindsNoTopic client user must cover
-both_kinds client user must cover plain dollar name valid = at (begins_with_dollar name) refl
-  where
-    at : (b : Bool) → begins_with_dollar name ≡ b → decides client user name must cover ≡ false
-    at true e = dollar name valid e
-    at false e = plain name valid e
+both_kinds client user must cover plain dollar name valid =
+    elim (cases_Bool (begins_with_dollar name)) [
+      | inl e ↦ dollar name valid e
+      | inr e ↦ plain name valid e
+    ]

@@ -1,18 +1,14 @@
-use Rattle.std.proofs.Common.{subst}
 use Rattle.std.specs.Option.{option_copied}
-use Rattle.mq_witness.specs.Asked.{AskedRows}
 use Rattle.mq_witness.specs.Limits.{usable}
-use Rattle.mq_witness.specs.Ready.{CanAnswer}
 use Rattle.mq_witness.specs.Rows.{lent_rows}
-use Rattle.mq_witness.proofs.ReadyLemmas.{all_contained}
+use Rattle.mq_witness.proofs.ReadyLemmas.{all_contained, can_answer}
 use Rattle.mq_witness.proofs.TopicLemmas.{both_kinds, ready_for}
 use Rattle.mq_witness.proofs.TryLemmas.{none_at, none_weaker}
 use Rattle.mq_witness.proofs.asked.Asked.find_topic.Goals as goal
 
 pub invariant_of-one : goal.invariant_of-one
 invariant_of-one c =
-    let can = subst (λ (s : AskedRows). CanAnswer s.rows c.self.inside.texts c.self.inside.dollar
-    c.self.inside.longest c.self.inside.users) c.self.view_is c.self.invariant.0 in
+    let can = can_answer c.self.view_is c.self.invariant.0 in
     record {
       ready = ready_for c.self.inside.longest c.fresh.result can.longer c.fresh.ensures
           c.args.client.now (option_copied c.args.user) (lent_rows c.args.must.now)

@@ -21,10 +21,8 @@ invariant_of-result c =
       all_usable = all_usable;
     } in (
       record {
-        asked_can = can_be_asked false (all_rows c.args.lists.items) c.in_ok-texts.texts
-            c.in_ok-names.names c.in_ok-users.users names c.in_ok-texts.ensures;
-        dollar_can = can_be_asked true (all_rows c.args.lists.items) c.in_ok-dollar.dollar
-            c.in_ok-names.names c.in_ok-users.users names c.in_ok-dollar.ensures;
+        asked_can = can_be_asked false names c.in_ok-texts.ensures;
+        dollar_can = can_be_asked true names c.in_ok-dollar.ensures;
         begin = client_begins false _ c.in_ok-texts.ensures.client.made;
         dollar_begin = client_begins true _ c.in_ok-dollar.ensures.client.made;
         all_usable = all_usable;
@@ -33,7 +31,8 @@ invariant_of-result c =
       (
         ap (λ k. are_whole c.args.rules (all_rows k)) (sym c.deref-2.ensures.value)
             ∙ none_at c.marked.result _ c.in_default-marked.is c.marked.ensures.whole,
-        c.has_patterns-patterns.ensures ∙ ap (λ k. has_patterns (all_rows k)) c.deref-3.ensures.value,
+        c.has_patterns-patterns.ensures
+            ∙ ap (λ k. has_patterns (all_rows k)) c.deref-3.ensures.value,
       ),
     )
 

@@ -4,8 +4,7 @@ use Rattle.std.specs.List.Sorted.{IsStrictlySortedBy}
 use Rattle.std.specs.Ordering.{nat_cmp}
 use Rattle.std.proofs.lemmas.Result.{IfOk-weaker}
 use Rattle.mq_witness.specs.Literals.{is_among}
-use Rattle.mq_witness.proofs.LiteralLemmas.{named_is}
-use Rattle.mq_witness.proofs.SortLemmas.{texts_sorted}
+use Rattle.mq_witness.proofs.LiteralLemmas.{named_is, texts_sorted}
 use Rattle.mq_witness.proofs.literals.Literals.list.Goals as goal
 
 pub returns-clause-texts : goal.returns-clause-texts

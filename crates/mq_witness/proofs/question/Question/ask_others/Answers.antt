@@ -1,5 +1,5 @@
 use Rattle.std.proofs.Common.{◌≡◌, ℕ, List, [], true, false, ap, sym, ◌∙◌, get_or, Bor, Some}
-use Rattle.mq_witness.specs.Answers.{HitsUser, MissesUser}
+use Rattle.mq_witness.specs.Answers.{MissesUser}
 use Rattle.mq_witness.specs.Literals.{is_among, is_named}
 use Rattle.mq_witness.proofs.LiteralLemmas.{named_is}
 use Rattle.mq_witness.proofs.TryLemmas.{among_at, none_at, none_left, one_more, others_missed}
@@ -26,7 +26,7 @@ ask_user-requires c =
     let listed = sym (ap (is_among user) c.deref-user-items.ensures.value
     ∙ c.in_ok-users.ensures user)
     ∙ among_at items c.loop-user.user-index none c.loop-user-test.true in
-    user_is_choice q.fresh q.dollar q.must.items q.cover.items q.can_ask user listed
+    user_is_choice q.can_ask user listed
 
 pub returns-in-Some-clause-some : goal.returns-in-Some-clause-some
 returns-in-Some-clause-some c =
@@ -39,18 +39,16 @@ returns-in-Some-clause-some c =
     record {
       user = user;
       unlisted = named_is user c.args.users.now ∙ sym c.names.ensures ∙ c.if-names.false;
-      user_fits = user_is_id q.fresh q.dollar q.must.items q.cover.items q.can_ask user listed;
-      user_known = λ p fresh fit. user_is_known q.fresh q.dollar q.must.items q.cover.items
-          q.can_ask p user listed fresh fit;
-      hits_user = some_at c.in_ok-found.field-0 c.in-Some.found (HitsUser q (Some user)) c.in-Some.is
-          c.in_ok-found.ensures.some;
+      user_fits = user_is_id q.can_ask user listed;
+      user_known = λ p fresh fit. user_is_known q.can_ask p user listed fresh fit;
+      hits_user = some_at _ _ _ c.in-Some.is c.in_ok-found.ensures.some;
     }
 
 pub loop-user-preserved : goal.loop-user-preserved
 loop-user-preserved c =
     one_more (λ t. is_named t c.args.users.now ≡ false → MissesUser c.args.self.now (Some t))
     c.deref-user-items.result.now c.loop-user.user-index none c.loop-user-test.true
-    (λ e. none_at c.in_ok-found.field-0 _ c.in_default.is c.in_ok-found.ensures.none)
+    (λ e. none_at _ _ c.in_default.is c.in_ok-found.ensures.none)
     c.loop-user.invariant
 
 pub returns-clause-none : goal.returns-clause-none

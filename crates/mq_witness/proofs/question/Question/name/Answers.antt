@@ -1,23 +1,19 @@
 use Rattle.std.proofs.Common.{ap, ◌∙◌}
 use Rattle.mq_topic.specs.Texts.{is_name}
-use Rattle.mq_cover.specs.Paths.{levels_of}
-use Rattle.mq_cover.specs.Remainders.{marks_view}
 use Rattle.mq_witness.proofs.AskLemmas.{choices_fit, found_hits, found_is_name, memory_is}
 use Rattle.mq_witness.proofs.question.Question.name.Goals as goal
 
 pub find-requires-clause-must : goal.find-requires-clause-must
-find-requires-clause-must c = choices_fit c.args.self.now.fresh c.args.self.now.must.items
-    c.deref.result.now c.deref.ensures.value c.args.self.now.can_ask.must_fits
+find-requires-clause-must c = choices_fit c.args.self.now.fresh c.deref.ensures.value
+    c.args.self.now.can_ask.must_fits
 
 pub find-requires-clause-cover : goal.find-requires-clause-cover
-find-requires-clause-cover c = choices_fit c.args.self.now.fresh c.args.self.now.cover.items
-    c.deref-2.result.now c.deref-2.ensures.value c.args.self.now.can_ask.cover_fits
+find-requires-clause-cover c = choices_fit c.args.self.now.fresh c.deref-2.ensures.value
+    c.args.self.now.can_ask.cover_fits
 
 pub returns-in-Ok-clause-some : goal.returns-in-Ok-clause-some
 returns-in-Ok-clause-some c =
-    found_hits c.args.self.now c.of-start.result c.deref.result.now c.deref-2.result.now
-    (marks_view c.args.marks) (levels_of c.in-Some.path) c.in-Ok.name
-    (record {
+    found_hits c.args.self.now (record {
       start_is = c.of-start.ensures;
       must_is = c.deref.ensures.value;
       cover_is = c.deref-2.ensures.value;
@@ -29,12 +25,9 @@ returns-in-Ok-clause-some c =
 pub unreachable-requires : goal.unreachable-requires
 unreachable-requires c =
     let valid = ap is_name (c.as_str.ensures.value ∙ c.in_ok-text.ensures)
-    ∙ found_is_name c.args.self.now c.of-start.result c.deref.result.now c.deref-2.result.now
-    (marks_view c.args.marks) (levels_of c.in-Some.path)
-    (record {
+    ∙ found_is_name c.args.self.now (record {
       start_is = c.of-start.ensures;
       must_is = c.deref.ensures.value;
       cover_is = c.deref-2.ensures.value;
-    })
-    (c.in_ok-path.ensures.some c.in-Some.path c.in-Some.is) in
+    }) (c.in_ok-path.ensures.some c.in-Some.path c.in-Some.is) in
     c.in_default-fault.not-Memory (memory_is c.in-Err.fault (c.in-Err.ensures.valid ∙ valid))
