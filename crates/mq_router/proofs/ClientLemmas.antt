@@ -1,7 +1,7 @@
 -- Subscriptions that take part in a message, by client.
-use Rattle.std.proofs.Common.{◌≡◌, ℕ, ◌+◌, ◌<◌, Bool, true, false, cond, not, is_none, ◌&&◌, ◌||◌}
-use Rattle.std.proofs.Common.{List, [], ◌∷◌, ◌++◌, map, length, take, get_or, append_assoc}
-use Rattle.std.proofs.Common.{if◌then◌else◌, Option, Some, None, refl, sym, ◌∙◌, ap, subst, arith}
+use Rattle.std.proofs.Common.{◌≡◌, ℕ, ◌+◌, ◌<◌, Bool, true, false, cond, not, ◌&&◌, ◌||◌, List, []}
+use Rattle.std.proofs.Common.{◌∷◌, ◌++◌, map, length, take, get_or, append_assoc, if◌then◌else◌, ap}
+use Rattle.std.proofs.Common.{Option, Some, None, refl, sym, ◌∙◌, subst, arith}
 use Rattle.std.specs.declared.cmp.Ordering.TheVariants.{Less}
 use Rattle.std.specs.Ordering.{is_eq}
 use Rattle.std.specs.Rc.{rc_str_bytes}
@@ -11,7 +11,7 @@ use Rattle.std.specs.List.Sorted.{IsStrictlySortedBy}
 use Rattle.std.specs.Map.{lookup, keys_of}
 use Rattle.std.specs.Fn.{ComputesOnPairs}
 use Rattle.std.specs.Slice.Iter.{chunk_by_rest, chunk_by_callee, chunk_by_steps}
-use Rattle.std.specs.Option.{option_map, option_to_list}
+use Rattle.std.specs.Option.{option_to_list}
 use Rattle.std.specs.declared.slice.ChunkBy.{ChunkBy}
 use denote.Ref.{Bor}
 use denote.Param.Members.{Mut}
@@ -19,8 +19,7 @@ use Rattle.std.proofs.lemmas.Grind.{common_steps}
 use Rattle.mq_acl.specs.AccessLists.{AccessList, allowed}
 use Rattle.mq_acl.specs.declared.access.Direction.TheVariants.{Reading}
 use Rattle.mq_world.specs.Sessions.{is_reader, user_of}
-use Rattle.mq_world.specs.Waiting.{with_qos}
-use Rattle.mq_sessions.specs.Queue.{QueueItem, room_for, queue_item}
+use Rattle.mq_sessions.specs.Queue.{QueueItem, room_for}
 use Rattle.mq_sessions.specs.Fates.{is_sent, waits}
 use Rattle.mq_sessions.specs.declared.sessions.session.Fate.{Fate}
 use Rattle.mq_router.proofs.SummaryLemmas.{summary_of-append}
@@ -34,11 +33,11 @@ use Rattle.mq_subscriptions.specs.Filters.{is_text, is_empty}
 use Rattle.mq_world.specs.Views.{options_of}
 use Rattle.mq_router.specs.delivery.Summaries.{Summary, summary_of, summary_for, together}
 use Rattle.mq_router.specs.delivery.Summaries.{copy_from}
-use Rattle.mq_router.specs.delivery.Copies.{gives, gives_options, copy_for, copies_by, queue_item_for}
-use Rattle.mq_router.specs.delivery.Copies.{queue_items_by, by_client, sent_by_fate, queued_by_fate}
+use Rattle.mq_router.specs.delivery.Copies.{gives, gives_options, copy_for, copies_by, by_client}
+use Rattle.mq_router.specs.delivery.Copies.{queue_item_for, queue_items_by, sent_by_fate}
+use Rattle.mq_router.specs.delivery.Copies.{queued_by_fate}
 use Rattle.mq_subscriptions.specs.Matches.{is_unshared_match, unshared_matches, match_views}
-use Rattle.mq_subscriptions.specs.Matches.{clients_of}
-use Rattle.mq_subscriptions.specs.Matches.{options_among, AreAscending, AreByClient}
+use Rattle.mq_subscriptions.specs.Matches.{clients_of, options_among, AreAscending, AreByClient}
 use Rattle.mq_world.proofs.BoolLemmas.{pick}
 use Rattle.mq_world.proofs.OrderLemmas.{text_flip, same_text-is, same_text-itself}
 use Rattle.mq_world.proofs.SortedLemmas.{sorted-in_order, any-in_order}
@@ -69,15 +68,7 @@ sorted-by_client xs = subst (IsStrictlySortedBy text_cmp) (sym (keys-by_client x
 among-any : (id : Text) (xs : List (Text × SubscriptionOptions))
     → list_any (is_text id) (clients_of xs) ≡ not (is_empty (options_among id xs))
 among-any id [] = refl
-among-any id (x ∷ xs) =
-    ap (λ b. b || list_any (is_text id) (clients_of xs)) (is_text-is id x.0 ∙ text_flip id x.0)
-    ∙ (elim (same_text x.0 id) as (λ b. (b || list_any (is_text id) (clients_of xs))
-    ≡ not (is_empty (map (λ (y : Text × SubscriptionOptions). y.1)
-    (cond b (x ∷ filter (λ y. same_text y.0 id) xs)
-    (filter (λ y. same_text y.0 id) xs))))) [
-      | true ↦ refl
-      | false ↦ among-any id xs
-    ])
+among-any id (x ∷ xs) = grind (arith, among-any id xs, is_text-is, text_flip)
 
 -- under a client stands the summary of its options, or nothing if it has none
 pub lookup-by_client : (id : Text) (xs : List (Text × SubscriptionOptions))
@@ -113,10 +104,7 @@ module _ (c : Text) where
   all-own : (own : List (Text × SubscriptionOptions)) → AllByRecursion (λ u. u ≡ c) (clients_of own)
       → filter (λ x. same_text x.0 c) own ≡ own
   all-own [] h = refl
-  all-own (x ∷ own) h =
-      ap (λ b. cond b (x ∷ filter (λ y. same_text y.0 c) own) (filter (λ y. same_text y.0 c) own))
-      (ap (λ u. same_text u c) h.0 ∙ same_text-itself c)
-      ∙ ap (λ l. x ∷ l) (all-own own h.1)
+  all-own (x ∷ own) h = grind (arith, all-own own h.1, same_text-itself)
 
   less-apart : (u : Text) → text_cmp c u ≡ Less → same_text c u ≡ false
   less-apart u less = sym (is_text-is c u) ∙ ap is_eq less
@@ -125,16 +113,12 @@ module _ (c : Text) where
       → AllByRecursion (λ u. text_cmp c u ≡ Less) (clients_of rest)
       → filter (λ x. same_text x.0 c) rest ≡ []
   none-own [] h = refl
-  none-own (x ∷ rest) h =
-      ap (λ b. cond b (x ∷ filter (λ y. same_text y.0 c) rest) (filter (λ y. same_text y.0 c) rest))
-      (text_flip x.0 c ∙ less-apart x.0 h.0) ∙ none-own rest h.1
+  none-own (x ∷ rest) h = grind (arith, none-own rest h.1, text_flip, less-apart)
 
   none-other : (id : Text) → text_cmp c id ≡ Less → (own : List (Text × SubscriptionOptions))
       → AllByRecursion (λ u. u ≡ c) (clients_of own) → filter (λ x. same_text x.0 id) own ≡ []
   none-other id less [] h = refl
-  none-other id less (x ∷ own) h =
-      ap (λ b. cond b (x ∷ filter (λ y. same_text y.0 id) own) (filter (λ y. same_text y.0 id) own))
-      (ap (λ u. same_text u id) h.0 ∙ less-apart id less) ∙ none-other id less own h.1
+  none-other id less (x ∷ own) h = grind (arith, none-other id less own h.1, less-apart)
 
   pub first-client : (x : Text × SubscriptionOptions) (own rest : List (Text × SubscriptionOptions))
       → AllByRecursion (λ u. u ≡ c) (clients_of (x ∷ own))
@@ -206,18 +190,10 @@ options-unshared m id (s ∷ rows) =
     ]))
   where
     mine : same_text s.client id ≡ true → s.client ≡ id → gives m id s ≡ is_unshared_match m s
-    mine t one =
-        ap (λ b. is_none s.share && b && not (s.options.no_local && same_text id m.publisher)) t
-        ∙ ap (λ b. b && not (s.options.no_local && same_text id m.publisher))
-        (and-true (is_none s.share))
-        ∙ ap (λ (k : Text). is_none s.share && not (s.options.no_local && same_text k m.publisher))
-        (sym one)
+    mine t one = grind (arith, and-true)
 
     other : same_text s.client id ≡ false → gives m id s ≡ false
-    other f =
-        ap (λ b. is_none s.share && b && not (s.options.no_local && same_text id m.publisher)) f
-        ∙ ap (λ b. b && not (s.options.no_local && same_text id m.publisher))
-        (and-false (is_none s.share))
+    other f = grind (arith, and-false)
 
 -- ## One more
 
@@ -226,13 +202,7 @@ pub summary-more : (xs : List Match) (i : ℕ) (d : Match) (old new : Summary) �
     → old ≡ summary_of (map (λ x. options_of x.options) (take i xs))
     → new ≡ together old (summary_of (options_of (get_or xs i d).options ∷ []))
     → new ≡ summary_of (map (λ x. options_of x.options) (take (i + 1) xs))
-summary-more xs i d old new h start sum =
-    let before : List SubscriptionOptions = map (λ x. options_of x.options) (take i xs) in
-    let o : SubscriptionOptions = options_of (get_or xs i d).options in
-    let more : before ++ o ∷ [] ≡ map (λ x. options_of x.options) (take (i + 1) xs) =
-    grind (arith, common_steps) in
-    sum ∙ ap (λ s. together s (summary_of (o ∷ []))) start ∙ sym (summary_of-append before (o ∷ []))
-    ∙ ap summary_of more
+summary-more xs i d old new h start sum = grind (arith, common_steps, summary_of-append)
 
 -- the subscriptions of the first client, in order: what they come to, and the others
 pub next-client : {F : Type 0} (g : Mut F (Bor Match × (Bor Match × Unit {0})) Bool)
@@ -319,25 +289,15 @@ module _ (limit : ℕ) (access : Option AccessList) (sessions : List Session) (m
 
   begin-by_way : queue_item_for limit access sessions m deadline l
       ≡ queued_by_fate w deadline (copy_from l.0 None m l.1)
-  begin-by_way =
-      ap (λ b. if b then option_map (queue_item l.0 deadline) (with_qos (copy_from l.0 None m l.1))
-      else None) (sym waiting)
+  begin-by_way = grind arith
 
   pub copies-first : (copies : List Copy) (L all : List (Text × Summary)) → all ≡ l ∷ L
       → (copies ++ option_to_list (sent_by_fate w (copy_from l.0 None m l.1)))
       ++ copies_by access sessions m L ≡ copies ++ copies_by access sessions m all
-  copies-first copies L all e =
-      onto copies (sent_by_fate w (copy_from l.0 None m l.1)) (copies_by access sessions m L)
-      ∙ ap (λ p. copies ++ cons_option p (copies_by access sessions m L)) (sym copy-by_way)
-      ∙ ap (λ k. copies ++ copies_by access sessions m k) (sym e)
+  copies-first copies L all e = grind (arith, onto, copy-by_way)
 
   pub begins-first : (queued : List QueueItem) (L all : List (Text × Summary)) → all ≡ l ∷ L
       → (queued ++ option_to_list (queued_by_fate w deadline (copy_from l.0 None m l.1)))
       ++ queue_items_by limit access sessions m deadline L
       ≡ queued ++ queue_items_by limit access sessions m deadline all
-  begins-first queued L all e =
-      onto queued (queued_by_fate w deadline (copy_from l.0 None m l.1))
-      (queue_items_by limit access sessions m deadline L)
-      ∙ ap (λ p. queued ++ cons_option p (queue_items_by limit access sessions m deadline L))
-      (sym begin-by_way)
-      ∙ ap (λ k. queued ++ queue_items_by limit access sessions m deadline k) (sym e)
+  begins-first queued L all e = grind (arith, onto, begin-by_way)

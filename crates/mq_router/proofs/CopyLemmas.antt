@@ -1,13 +1,11 @@
 -- Identifiers that are sorted.
-use Rattle.std.proofs.Common.{◌≡◌, ◌<◌, ℕ, suc, ◌+◌, true, false, cond, List, [], ◌∷◌, get_or, refl}
-use Rattle.std.proofs.Common.{sym, ◌∙◌, ap, subst, arith, nat_le}
+use Rattle.std.proofs.Common.{◌≡◌, ℕ, suc, ◌+◌, true, false, cond, List, [], ◌∷◌, get_or, refl, sym}
+use Rattle.std.proofs.Common.{◌∙◌, ap, subst, arith, nat_le}
 use Rattle.std.specs.Ordering.{is_lt, nat_cmp}
 use Rattle.std.specs.List.Sorted.{IsPermutation, IsSorted}
 use Rattle.std.proofs.lemmas.List.Sorted.{sum_by-IsPermutation}
 use Rattle.std.proofs.lemmas.List.Sums.{length-filter}
 use Rattle.std.proofs.lemmas.Cmp.{ranked}
-use Rattle.std.specs.declared.cmp.Ordering.{Ordering}
-use Rattle.std.specs.declared.cmp.Ordering.TheVariants.{Less, Equal, Greater}
 use Rattle.std.proofs.lemmas.Bool.Decides.{nat_tests}
 use Rattle.mq_world.specs.Lists.{SameElements, ascending, insert_number}
 use Rattle.mq_world.proofs.SameLemmas.{ascending-SameElements}
@@ -17,13 +15,7 @@ permuted-same xs ys h = λ p. length-filter p xs
     ∙ sym (sum_by-IsPermutation (λ x. cond (p x) 1 0) xs ys h) ∙ sym (length-filter p ys)
 
 le_from_sorted : (y z : ℕ) → is_lt (nat_cmp z y) ≡ false → nat_le y z ≡ true
-le_from_sorted y z h =
-    let P : Ordering → Type 0 = λ r. r ≡ nat_cmp z y → is_lt r ≡ false → nat_le y z ≡ true in
-    (elim (nat_cmp z y) as P [
-      | Less ↦ λ e k. cc
-      | Equal ↦ λ e k. (let same : z ≡ y = ranked z y Equal e in grind (arith, nat_tests))
-      | Greater ↦ λ e k. (let above : y < z = ranked z y Greater e in grind (arith, nat_tests))
-    ]) refl h
+le_from_sorted y z h = grind (arith, ranked, nat_tests)
 
 tail_sorted : (y : ℕ) (ys : List ℕ) → IsSorted nat_cmp (y ∷ ys) → IsSorted nat_cmp ys
 tail_sorted y ys h = λ k d low high.

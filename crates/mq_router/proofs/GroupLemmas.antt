@@ -1,41 +1,31 @@
 -- The groups that have members, and who is served in each.
-use Rattle.std.proofs.Common.{◌≡◌, Bool, true, false, cond, not, ◌&&◌, ◌||◌, List, [], ◌∷◌, map}
-use Rattle.std.proofs.Common.{Option, Some, None, refl, sym, ◌∙◌, ap}
-use Rattle.std.specs.Ordering.{is_eq, nat_cmp}
-use Rattle.std.specs.Cmp.{tied_then}
-use Rattle.std.specs.Cmp.Lexicographic.{slice_cmp}
+use Rattle.std.proofs.Common.{◌≡◌, Bool, true, false, cond, not, ◌&&◌, ◌||◌, List, [], ◌∷◌, map, ap}
+use Rattle.std.proofs.Common.{Option, Some, None, refl, sym, ◌∙◌, arith}
+use Rattle.std.specs.Ordering.{is_eq}
 use Rattle.std.specs.Option.{option_map, option_map_or}
-use Rattle.std.specs.List.{filter, filter_map, cons_option, find, list_any}
+use Rattle.std.specs.List.{filter, filter_map, cons_option, list_any}
 use Rattle.std.specs.List.Sorted.{IsStrictlySortedBy}
 use Rattle.std.proofs.lemmas.Map.Text.{is_eq-slice_cmp}
 use Rattle.std.proofs.lemmas.Bool.{and_parts}
-use Rattle.mq_topic.specs.Levels.{levels, level_order}
 use Rattle.mq_acl.specs.AccessLists.{AccessList}
-use Rattle.mq_world.specs.Sessions.{is_reader}
 use Rattle.mq_world.specs.Lists.{Text, same_text, in_order}
 use Rattle.mq_world.specs.World.{Session, Row, Subscription, Group, Message, group_cmp, group_of}
 use Rattle.mq_world.specs.World.{is_in_group, same_share}
-use Rattle.mq_subscriptions.specs.Turns.{groups_among, next_in, next_members}
+use Rattle.mq_subscriptions.specs.Turns.{groups_among, next_members}
 use Rattle.mq_world.specs.Copies.{filter_matches}
 use Rattle.mq_subscriptions.specs.Filters.{is_empty}
 use Rattle.mq_world.specs.Groups.{groups_of}
 use Rattle.mq_world.proofs.ListLemmas.{filter_map-map}
-use Rattle.mq_world.proofs.OrderLemmas.{group_total, level_equal, text_flip}
+use Rattle.mq_world.proofs.OrderLemmas.{group_total, level_equal, text_flip, same_text-is}
 use Rattle.mq_world.proofs.SortedLemmas.{sorted-in_order, any-in_order, ties, same_filtered}
 use Rattle.mq_world.proofs.BoolLemmas.{pick}
-use Rattle.mq_world.proofs.OrderLemmas.{same_text-is}
 
 -- ## Groups in order
 
 -- groups tie in their order where their share names and their filters are the same
 pub group_tie : (g k : Group) → is_eq (group_cmp g k)
     ≡ (same_text g.share k.share && same_text g.filter k.filter)
-group_tie g k =
-    sym (tied_then (slice_cmp nat_cmp g.share k.share)
-    (level_order (levels g.filter) (levels k.filter)))
-    ∙ ap (λ b. b && is_eq (level_order (levels g.filter) (levels k.filter)))
-    (is_eq-slice_cmp g.share k.share)
-    ∙ ap (λ b. same_text g.share k.share && b) (level_equal g.filter k.filter)
+group_tie g k = grind (arith, is_eq-slice_cmp, level_equal)
 
 -- groups that tie are the same
 pub group_tied : (g k : Group) → is_eq (group_cmp g k) ≡ true → g ≡ k
@@ -107,9 +97,7 @@ pub groups-same : (q : Group → Bool) (xs ys : List Subscription)
     → ((g : Group) → q g ≡ true → list_any (is_in_group g) xs ≡ list_any (is_in_group g) ys)
     → filter q (groups_among xs) ≡ filter q (groups_among ys)
 groups-same q xs ys h =
-    same_filtered group_cmp group_total group_tied q (groups_among xs) (groups_among ys)
-    (groups-sorted xs) (groups-sorted ys)
-    (λ g e. groups-any g xs ∙ h g e ∙ sym (groups-any g ys))
+    grind (arith, same_filtered, group_total, group_tied, groups-sorted, groups-any)
 
 -- ## Those that are found for a name
 
@@ -142,9 +130,7 @@ in_matching topic g m (x ∷ xs) =
 -- some element passes where the list of those that pass isn't empty, and only there
 pub shown : {X : Type 0} (p : X → Bool) (zs : List X) → list_any p zs ≡ not (is_empty (filter p zs))
 shown p [] = refl
-shown p (z ∷ zs) =
-    elim (p z) as (λ b. (b || list_any p zs)
-    ≡ not (is_empty (cond b (z ∷ filter p zs) (filter p zs)))) [ true ↦ refl | false ↦ shown p zs ]
+shown p (z ∷ zs) = grind (arith, shown p zs)
 
 -- if the same elements pass in both lists, some pass in both or in neither
 pub any-from_filter : {X : Type 0} (p : X → Bool) (xs ys : List X) → filter p xs ≡ filter p ys
@@ -155,15 +141,7 @@ filter_map-alike : {X Y : Type 0} (h k : X → Option Y) (q : X → Bool)
     → ((x : X) → q x ≡ true → h x ≡ k x) → (xs : List X)
     → filter_map h (filter q xs) ≡ filter_map k (filter q xs)
 filter_map-alike h k q e [] = refl
-filter_map-alike {X} h k q e (x ∷ xs) =
-    let rest : List X = filter q xs in
-    pick (q x)
-    (λ t. ap (λ b. filter_map h (cond b (x ∷ rest) rest)) t
-    ∙ ap (λ o. cons_option o (filter_map h rest)) (e x t)
-    ∙ ap (cons_option (k x)) (filter_map-alike h k q e xs)
-    ∙ sym (ap (λ b. filter_map k (cond b (x ∷ rest) rest)) t))
-    (λ f. ap (λ b. filter_map h (cond b (x ∷ rest) rest)) f ∙ filter_map-alike h k q e xs
-    ∙ sym (ap (λ b. filter_map k (cond b (x ∷ rest) rest)) f))
+filter_map-alike {X} h k q e (x ∷ xs) = grind (arith, filter_map-alike h k q e xs, pick)
 
 -- those that match are enough
 pub members-matching : (access : Option AccessList) (sessions : List Session)
@@ -172,11 +150,4 @@ pub members-matching : (access : Option AccessList) (sessions : List Session)
     ≡ next_members access sessions xs m
 unfolding next_members
 members-matching access sessions xs m =
-    let q : Group → Bool = λ group. filter_matches group.filter m.topic in
-    let few : List Subscription = filter (matching m.topic) xs in
-    filter_map-alike (next_in access sessions few m.topic) (next_in access sessions xs m.topic) q
-    (λ g t. ap (find (λ x. is_reader access sessions m.topic x.client))
-    (in_matching m.topic g t xs)) (groups_among few)
-    ∙ ap (filter_map (next_in access sessions xs m.topic))
-    (groups-same q few xs (λ g t. any-from_filter (is_in_group g) few xs
-    (in_matching m.topic g t xs)))
+    grind (arith, filter_map-alike, in_matching, groups-same, any-from_filter)

@@ -1,6 +1,6 @@
 -- The next world is one: each list has one row for a key, in the order of the keys, and each stamp was given out.
-use Rattle.std.proofs.Common.{◌≡◌, ◌<◌, ℕ, ◌+◌, Bool, true, false, cond, not, List, [], ◌∷◌, Option}
-use Rattle.std.proofs.Common.{Some, None, map, if◌then◌else◌, refl, subst, arith}
+use Rattle.std.proofs.Common.{◌≡◌, ◌<◌, ℕ, ◌+◌, Bool, true, false, not, List, [], ◌∷◌, Option, map}
+use Rattle.std.proofs.Common.{if◌then◌else◌, subst, arith}
 use Rattle.std.specs.Option.{option_map_or}
 use Rattle.std.specs.List.{filter, find, AllByRecursion}
 use Rattle.std.specs.List.Sorted.{IsStrictlySortedBy}
@@ -8,15 +8,14 @@ use Rattle.std.proofs.lemmas.List.Kept.{IsStrictlySortedBy-filter}
 use Rattle.mq_topic.specs.Texts.{share_of, filter_part}
 use Rattle.mq_acl.specs.AccessLists.{AccessList}
 use Rattle.mq_world.specs.Lists.{Text, same_text, with_row}
-use Rattle.mq_world.specs.World.{World, IsWorld, Session, Away, Subscription, Row, Retained}
-use Rattle.mq_world.specs.World.{Message, Request, Connect, Disconnect, Subscribe, Unsubscribe}
-use Rattle.mq_world.specs.World.{Publish, SetAcl, Advance, Stat, subscription_of, session_cmp}
-use Rattle.mq_world.specs.World.{row_cmp}
+use Rattle.mq_world.specs.World.{World, IsWorld, Session, Subscription, Row, Retained, Message}
+use Rattle.mq_world.specs.World.{Request, Connect, Disconnect, Subscribe, Unsubscribe, Publish}
+use Rattle.mq_world.specs.World.{SetAcl, Advance, Stat, subscription_of, session_cmp, row_cmp}
 use Rattle.mq_world.specs.World.{retained_cmp, has_id, has_key, same_key, is_in_group, rows_in}
 use Rattle.mq_world.specs.World.{subscriptions_of}
-use Rattle.mq_world.specs.Clock.{deadline_of, is_over}
-use Rattle.mq_world.specs.Sessions.{new_session, outlives, resumes, left_by, session_end, has_ended}
-use Rattle.mq_world.specs.Waiting.{waiting_copy, waiting_after, with_waiting}
+use Rattle.mq_world.specs.Clock.{is_over}
+use Rattle.mq_world.specs.Sessions.{new_session, outlives, resumes, left_by, has_ended}
+use Rattle.mq_world.specs.Waiting.{waiting_after}
 use Rattle.mq_world.specs.Groups.{served_by}
 use Rattle.mq_world.specs.Retained.{retained_after, is_stored, retained_of, has_topic}
 use Rattle.mq_world.specs.After.{after, kept_stamp, without_client}
@@ -42,17 +41,11 @@ gone w id stays =
 
 -- no edit of sessions changes an id
 left-id : (now : ℕ) (id : Text) (s : Session) → (left_by now id s).id ≡ s.id
-left-id now id s = elim (has_id id s)
-    as (λ b. (if b then record s { presence = Away (session_end now s.interval) } else s).id ≡ s.id)
-    [ true ↦ refl | false ↦ refl ]
+left-id now id s = grind arith
 
 waiting-id : (limit : ℕ) (access : Option AccessList) (subs : List Subscription) (now : ℕ)
     (m : Message) (s : Session) → (waiting_after limit access subs now m s).id ≡ s.id
-waiting-id limit access subs now m s =
-    elim (waiting_copy limit access subs m s)
-    as (λ o. (option_map_or (λ copy. with_waiting s
-    (record { copy = copy; deadline = deadline_of now m.expiry } ∷ [])) o s).id ≡ s.id)
-    [ None ↦ refl | Some copy ↦ refl ]
+waiting-id limit access subs now m s = grind arith
 
 stamp_below : (n : ℕ) (rows : List Row) → AllByRecursion (λ row. row.stamp < n) rows
     → AllByRecursion (λ row. row.stamp < n + 1) rows
@@ -63,13 +56,7 @@ found_below : (p : Row → Bool) (n : ℕ) (rows : List Row)
     → AllByRecursion (λ row. row.stamp < n) rows
     → option_map_or (λ row. row.stamp) (find p rows) n < n + 1
 found_below p n [] h = omega arith
-found_below p n (row ∷ rows) h =
-    let here : row.stamp < n = h.0 in
-    elim (p row) as (λ b. option_map_or (λ (r : Row). r.stamp) (cond b (Some row) (find p rows)) n <
-    n + 1) [
-      | true ↦ omega arith
-      | false ↦ found_below p n rows h.1
-    ]
+found_below p n (row ∷ rows) h = grind (arith, found_below p n rows h.1)
 
 -- rows of which some are kept
 fewer : (q : Row → Bool) (w : World) → IsWorld w → (sessions : List Session)
@@ -115,6 +102,7 @@ after-is_world w h (Connect id user clean interval) =
     let sorted : IsStrictlySortedBy session_cmp sessions =
     sorted-with_row session_cmp session_total (new_session id user interval) w.sessions
     h.sessions in
+    let stamps = stamp_below w.accepted w.rows h.stamps in
     elim (resumes w.sessions id clean)
     as (λ b. IsWorld
     (record w {
@@ -122,25 +110,14 @@ after-is_world w h (Connect id user clean interval) =
       rows = if b then w.rows else without_client id w.rows;
       accepted = w.accepted + 1;
     })) [
-      | true ↦ record {
-        sessions = sorted;
-        rows = h.rows;
-        retained = h.retained;
-        stamps =
-            stamp_below w.accepted w.rows h.stamps;
-        apart = h.apart;
-      }
+      | true ↦ grind (arith, sorted, stamps)
       | false ↦ fewer (λ row. not (same_text row.subscription.client id)) w h _ sorted
     ]
 after-is_world w h (Disconnect id) =
+    let sorted = sorted-map (left_by w.moment id) (left-id w.moment id) w.sessions h.sessions in
+    let stamps = stamp_below w.accepted w.rows h.stamps in
     elim (outlives w.sessions id) as (λ b. IsWorld (gone w id b)) [
-      | true ↦ record {
-        sessions = sorted-map (left_by w.moment id) (left-id w.moment id) w.sessions h.sessions;
-        rows = h.rows;
-        retained = h.retained;
-        stamps = stamp_below w.accepted w.rows h.stamps;
-        apart = h.apart;
-      }
+      | true ↦ grind (arith, sorted, stamps)
       | false ↦ fewer (λ row. not (same_text row.subscription.client id)) w h _
           (IsStrictlySortedBy-filter session_cmp (λ session. not (has_id id session)) w.sessions
           h.sessions)
@@ -169,40 +146,13 @@ after-is_world w h (Publish m) = record {
   stamps = restamped-below w.accepted (served_by w m) w.rows h.stamps;
   apart = served-apart w h m;
 }
-after-is_world w h (SetAcl text) =
-    record {
-      sessions = h.sessions;
-      rows = h.rows;
-      retained = h.retained;
-      stamps =
-          stamp_below w.accepted w.rows h.stamps;
-      apart = h.apart;
-    }
+after-is_world w h (SetAcl text) = grind (arith, stamp_below)
 after-is_world w h (Advance seconds) =
     let now : ℕ = w.moment + seconds in
-    let rest : IsWorld
-    (record w {
-      sessions = filter (λ session. not (has_ended now session)) w.sessions;
-      rows =
-          filter (λ row. lasts now w.sessions row.subscription) w.rows;
-      accepted =
-          w.accepted + 1;
-    }) =
-    fewer (λ row. lasts now w.sessions row.subscription) w h _
+    let rest = fewer (λ row. lasts now w.sessions row.subscription) w h _
     (IsStrictlySortedBy-filter session_cmp (λ session. not (has_ended now session)) w.sessions
     h.sessions) in
-    record {
-      sessions = rest.sessions;
-      rows = rest.rows;
-      retained = IsStrictlySortedBy-filter retained_cmp (λ kept. not (is_over now kept.deadline))
-          w.retained h.retained;
-      stamps = rest.stamps;
-      apart = rest.apart;
-    }
-after-is_world w h Stat = record {
-  sessions = h.sessions;
-  rows = h.rows;
-  retained = h.retained;
-  stamps = stamp_below w.accepted w.rows h.stamps;
-  apart = h.apart;
-}
+    let kept = IsStrictlySortedBy-filter retained_cmp (λ kept. not (is_over now kept.deadline))
+    w.retained h.retained in
+    grind (arith, rest, kept)
+after-is_world w h Stat = grind (arith, stamp_below)

@@ -1,11 +1,10 @@
 -- The copies that begin to wait, put behind those that wait one client after the other.
-use Rattle.std.proofs.Common.{◌≡◌, ℕ, ◌==◌, ◌&&◌, ◌||◌, Bool, true, false, not, List, [], ◌∷◌, map}
-use Rattle.std.proofs.Common.{length, Option, Some, None, is_some, refl, sym, ◌∙◌, ap}
-use Rattle.std.proofs.Common.{if◌then◌else◌}
+use Rattle.std.proofs.Common.{◌≡◌, ℕ, ◌==◌, true, false, not, List, [], ◌∷◌, map, length, Option}
+use Rattle.std.proofs.Common.{Some, None, refl, sym, ◌∙◌, ap, arith}
 use Rattle.std.specs.declared.cmp.Ordering.TheVariants.{Less}
 use Rattle.std.specs.Ordering.{is_eq}
-use Rattle.std.specs.Option.{option_map, option_map_or, option_and_then}
-use Rattle.std.specs.List.{filter_map, cons_option, list_any, AllByRecursion}
+use Rattle.std.specs.Option.{option_map, option_map_or}
+use Rattle.std.specs.List.{filter_map, cons_option, AllByRecursion}
 use Rattle.std.specs.List.Sorted.{IsStrictlySortedBy}
 use Rattle.std.proofs.lemmas.Map.Text.{is_eq-slice_cmp}
 use Rattle.std.proofs.lemmas.Slice.Eq.{bytes_eq-Decides}
@@ -13,9 +12,7 @@ use Rattle.mq_acl.specs.AccessLists.{AccessList}
 use Rattle.mq_world.specs.Lists.{same_text}
 use Rattle.mq_world.specs.World.{Session, Subscription, Waiting, Message, Copy, session_cmp}
 use Rattle.mq_world.specs.Clock.{deadline_of}
-use Rattle.mq_world.specs.Sessions.{is_present}
-use Rattle.mq_world.specs.Copies.{unshared_copy}
-use Rattle.mq_world.specs.Waiting.{has_place, with_qos, with_waiting, waiting_copy, waiting_after}
+use Rattle.mq_world.specs.Waiting.{has_place, with_waiting, waiting_copy, waiting_after}
 use Rattle.mq_world.specs.Waiting.{begins_to_wait}
 use Rattle.mq_sessions.specs.Queue.{QueueItem, queue_item, queue_copies, edit_session, queue_one}
 use Rattle.mq_sessions.specs.Queue.{queue_all}
@@ -27,15 +24,7 @@ module _ (limit : ℕ) (access : Option AccessList) (subs : List Subscription) w
   -- only where there is a place does a copy begin to wait
   placed : (m : Message) (s : Session) (copy : Copy)
       → waiting_copy limit access subs m s ≡ Some copy → has_place limit s ≡ true
-  placed m s copy h =
-      let o : Option Copy = option_and_then with_qos (unshared_copy access subs m s.id s.user) in
-      let P : Bool → Bool → Type 0 = λ away place. (if away && place then o else None) ≡ Some copy
-      → place ≡ true in
-      (elim (not (is_present s)) as (λ away. P away (has_place limit s)) [
-        | true ↦ elim (has_place limit s) as (λ place. P true place)
-            [ true ↦ λ k. refl | false ↦ λ k. cc ]
-        | false ↦ λ k. cc
-      ]) h
+  placed m s copy h = grind arith
 
   apart_below : (s x : Session) → session_cmp s x ≡ Less → same_text s.id x.id ≡ false
   apart_below s x less = sym (is_eq-slice_cmp s.id x.id) ∙ ap is_eq less
@@ -47,13 +36,7 @@ module _ (limit : ℕ) (access : Option AccessList) (subs : List Subscription) w
       (filter_map (begins limit access subs m deadline) ss)
   begins_apart m deadline s [] h = tt
   begins_apart m deadline s (x ∷ xs) h =
-      elim (waiting_copy limit access subs m x)
-      as (λ o. AllByRecursion (λ (b : QueueItem). same_text s.id b.0 ≡ false)
-      (cons_option (option_map (queue_item x.id deadline) o)
-      (filter_map (begins limit access subs m deadline) xs))) [
-        | None ↦ begins_apart m deadline s xs h.1
-        | Some copy ↦ (apart_below s x h.0, begins_apart m deadline s xs h.1)
-      ]
+      grind (arith, begins_apart m deadline s xs h.1, apart_below)
 
   queued_apart : (bs : List QueueItem) (s : Session) (ss : List Session)
       → AllByRecursion (λ b. same_text s.id b.0 ≡ false) bs
@@ -64,9 +47,7 @@ module _ (limit : ℕ) (access : Option AccessList) (subs : List Subscription) w
   others_stay : (s : Session) (ws : List Waiting) (ss : List Session)
       → AllByRecursion (λ x. session_cmp s x ≡ Less) ss → queue_one limit (s.id, ws) ss ≡ ss
   others_stay s ws [] h = refl
-  others_stay s ws (x ∷ xs) h =
-      let other : same_text x.id s.id ≡ false = text_flip x.id s.id ∙ apart_below s x h.0 in
-      rw (other, others_stay s ws xs h.1) refl
+  others_stay s ws (x ∷ xs) h = grind (arith, others_stay s ws xs h.1, text_flip, apart_below)
 
   pub queued-is : (now : ℕ) (m : Message) (sessions : List Session)
       → IsStrictlySortedBy session_cmp sessions
@@ -106,12 +87,4 @@ module _ (limit : ℕ) (access : Option AccessList) (subs : List Subscription) w
       ≡ begins_to_wait limit access sessions subs m
   unfolding begins_to_wait
   waits-is m deadline [] = refl
-  waits-is m deadline (s ∷ ss) =
-      elim (waiting_copy limit access subs m s)
-      as (λ o. not (length (cons_option (option_map (queue_item s.id deadline) o)
-      (filter_map (begins limit access subs m deadline) ss)) == 0)
-      ≡ (is_some o || list_any (λ session. is_some (waiting_copy limit access subs m session))
-      ss)) [
-        | None ↦ waits-is m deadline ss
-        | Some copy ↦ sym (some_pass (length (filter_map (begins limit access subs m deadline) ss)))
-      ]
+  waits-is m deadline (s ∷ ss) = grind (arith, waits-is m deadline ss, some_pass)

@@ -1,19 +1,19 @@
 -- What each command does with what the router holds.
-use Rattle.std.proofs.Common.{◌≡◌, ◌⊎◌, ◌<◌, ◌≤◌, ◌+◌, nat_lt, arith, ℕ, Bool, true, false, not}
-use Rattle.std.proofs.Common.{List, [], ◌∷◌, ◌++◌, map, Option, Some, None, Result, Err, IfErr, is_some}
-use Rattle.std.proofs.Common.{◌&&◌, if◌then◌else◌, refl, sym, ◌∙◌, ap, subst, inl, inr, append_assoc}
+use Rattle.std.proofs.Common.{◌≡◌, ◌⊎◌, ◌<◌, ◌≤◌, ◌+◌, nat_lt, arith, ℕ, Bool, true, false, not, []}
+use Rattle.std.proofs.Common.{List, ◌∷◌, ◌++◌, map, Option, Some, None, Result, Err, IfErr, is_some}
+use Rattle.std.proofs.Common.{◌&&◌, if◌then◌else◌, refl, sym, ◌∙◌, ap, subst, inl, inr}
+use Rattle.std.proofs.Common.{append_assoc}
 use Rattle.std.specs.Option.{option_map}
 use Rattle.std.specs.List.{filter}
 use Rattle.std.proofs.lemmas.Bool.Decides.{nat_tests}
-use Rattle.mq_topic.specs.Texts.{is_name, is_shared, is_subscription, share_of, share_name}
-use Rattle.mq_topic.specs.Texts.{filter_part}
+use Rattle.mq_topic.specs.Texts.{is_name, is_shared, is_subscription, share_of, filter_part}
 use Rattle.mq_acl.specs.AccessLists.{allowed}
 use Rattle.mq_acl.specs.declared.access.Direction.TheVariants.{Writing}
 use Rattle.mq_world.specs.Lists.{Text, with_row}
 use Rattle.mq_world.specs.World.{Session, Subscription, SubscriptionOptions, Message, Retained}
-use Rattle.mq_world.specs.World.{Request, Reply, Connect, Disconnect, Subscribe, Unsubscribe}
-use Rattle.mq_world.specs.World.{Publish, SetAcl, Advance, Stat, subscription_of, session_cmp}
-use Rattle.mq_world.specs.World.{has_id, has_key}
+use Rattle.mq_world.specs.World.{Request, Reply, Connect, Disconnect, Subscribe, Unsubscribe, Stat}
+use Rattle.mq_world.specs.World.{Publish, SetAcl, Advance, subscription_of, session_cmp, has_id}
+use Rattle.mq_world.specs.World.{has_key}
 use Rattle.mq_world.specs.Clock.{last_moment}
 use Rattle.mq_world.specs.Sessions.{new_session, user_of, outlives, resumes, left_by, has_ended}
 use Rattle.mq_world.specs.Waiting.{waiting_after}
@@ -27,9 +27,8 @@ use Rattle.mq_world.specs.Turns.{SameInTurn}
 use Rattle.mq_world.specs.Answers.{reason}
 use Rattle.mq_world.specs.After.{access_of}
 use Rattle.mq_router.specs.StandsFor.{State, Refuses}
-use Rattle.mq_router.specs.router.Effects.{Applied, Does, world_of, reply_to, members_now}
-use Rattle.mq_router.specs.router.Effects.{copies_sent, counts_now, without, lasts}
-use Rattle.mq_router.specs.router.Effects.{sender_conditions}
+use Rattle.mq_router.specs.router.Effects.{Applied, Does, world_of, reply_to, members_now, without}
+use Rattle.mq_router.specs.router.Effects.{copies_sent, counts_now, lasts, sender_conditions}
 use Rattle.mq_subscriptions.specs.Turns.{upsert, all_turned}
 use Rattle.mq_subscriptions.specs.Filters.{SubscriptionsView, AreKeys}
 use Rattle.mq_retained.specs.Stored.{RetainedView, AreFiled}
@@ -37,9 +36,9 @@ use Rattle.mq_subscriptions.proofs.InTurn.{same-is, same-itself, same-then}
 use Rattle.mq_world.specs.declared.answer.Answer.{Answer}
 use Rattle.mq_world.specs.declared.refusal.Refusal.{Refusal}
 use Rattle.mq_world.specs.declared.refusal.Refusal.TheVariants.{ClientId, UserName, TopicName}
-use Rattle.mq_world.specs.declared.refusal.Refusal.TheVariants.{TopicFilter, SharedNoLocal}
-use Rattle.mq_world.specs.declared.refusal.Refusal.TheVariants.{NotAuthorized, RetainedFull}
-use Rattle.mq_world.specs.declared.refusal.Refusal.TheVariants.{AclLine, ClockTooFar, Memory}
+use Rattle.mq_world.specs.declared.refusal.Refusal.TheVariants.{TopicFilter, SharedNoLocal, AclLine}
+use Rattle.mq_world.specs.declared.refusal.Refusal.TheVariants.{NotAuthorized, RetainedFull, Memory}
+use Rattle.mq_world.specs.declared.refusal.Refusal.TheVariants.{ClockTooFar}
 
 -- ## Refusals
 
@@ -54,46 +53,31 @@ refused-as P result r is why = subst (λ v. IfErr v P) (sym is) why
 
 hit : (b : Bool) (r : Refusal) (rest : Conditions) → b ≡ false
     → first_refusal ((not b, r) ∷ rest) ≡ Some r
-hit b r rest e = ap (λ v. first_refusal ((not v, r) ∷ rest)) e
+hit b r rest e = grind arith
 
 skip : (b : Bool) (r : Refusal) (rest : Conditions) → b ≡ true
     → first_refusal ((not b, r) ∷ rest) ≡ first_refusal rest
-skip b r rest e = ap (λ v. first_refusal ((not v, r) ∷ rest)) e
+skip b r rest e = grind arith
 
 first-refused : (xs ys : Conditions) (r : Refusal) → Some r ≡ first_refusal xs
     → first_refusal (xs ++ ys) ≡ Some r
 first-refused [] ys r h = cc
-first-refused ((b, x) ∷ xs) ys r h =
-    let P : Bool → Type 0 = λ v. Some r ≡ first_refusal ((v, x) ∷ xs)
-    → first_refusal ((v, x) ∷ (xs ++ ys)) ≡ Some r in
-    (elim b as P [ true ↦ λ e. sym e | false ↦ λ e. first-refused xs ys r e ]) h
+first-refused ((b, x) ∷ xs) ys r h = grind (arith, first-refused xs ys)
 
 first-passed : (xs ys : Conditions) → None ≡ first_refusal xs
     → first_refusal (xs ++ ys) ≡ first_refusal ys
 first-passed [] ys h = refl
-first-passed ((b, x) ∷ xs) ys h =
-    let P : Bool → Type 0 = λ v. None ≡ first_refusal ((v, x) ∷ xs)
-    → first_refusal ((v, x) ∷ (xs ++ ys)) ≡ first_refusal ys in
-    (elim b as P [
-      | true ↦ λ e. (let no : None ≡ Some x = e in cc)
-      | false ↦ λ e. first-passed xs ys
-          e
-    ]) h
+first-passed ((b, x) ∷ xs) ys h = grind (arith, first-passed xs ys)
 
 -- a refusal by a condition behind those on the client
 refused-behind : (xs ys : Conditions) (r wanted : Refusal) (b : Bool) → None ≡ first_refusal xs
     → (r ≡ Memory) ⊎ ((r ≡ wanted) × (b ≡ false)) → (r ≡ Memory)
     ⊎ (first_refusal (xs ++ (not b, wanted) ∷ ys) ≡ Some r)
-refused-behind xs ys r wanted b h why =
-    elim why as (λ _. (r ≡ Memory) ⊎ (first_refusal (xs ++ (not b, wanted) ∷ ys) ≡ Some r)) [
-      | inl memory ↦ inl memory
-      | inr refused ↦ inr (first-passed xs ((not b, wanted) ∷ ys) h ∙ hit b wanted ys refused.1
-          ∙ ap (λ x. Some x) (sym refused.0))
-    ]
+refused-behind xs ys r wanted b h why = grind (arith, first-passed, hit)
 
 passed-behind : (xs ys : Conditions) (wanted : Refusal) (b : Bool) → None ≡ first_refusal xs
     → b ≡ true → first_refusal (xs ++ (not b, wanted) ∷ ys) ≡ first_refusal ys
-passed-behind xs ys wanted b h e = first-passed xs ((not b, wanted) ∷ ys) h ∙ skip b wanted ys e
+passed-behind xs ys wanted b h e = grind (arith, first-passed, skip)
 
 -- ## What comes next
 
@@ -152,24 +136,7 @@ pub connect-does : (s : State) (id : Text) (user : Option Text) (clean : Bool) (
     → AreNext s subs (connect_rows s id (resumes s.sessions id clean))
     → Does s (Connect id user clean interval) reply
     (record s { sessions = sessions; subscriptions = subs.rows; filter_keys = subs.keys })
-connect-does s id user clean interval sessions subs reply is ss next = record {
-  accepted = is.accepted;
-  reply_is = is.reply_is;
-  rows = record {
-    limits = refl;
-    rules = refl;
-    moment = refl;
-    access = refl;
-    sessions = ss;
-    subscriptions = next.same;
-    retained = refl;
-  };
-  filed = λ old. record {
-    filter_keys = next.keys old.filter_keys;
-    topic_keys = old.topic_keys;
-    deadlines = old.deadlines;
-  };
-}
+connect-does s id user clean interval sessions subs reply is ss next = grind (arith, same-itself)
 
 -- a disconnect is refused as the conditions on its client say
 pub disconnect-client : (s : State) (id : Text) (r : Refusal)
@@ -191,25 +158,7 @@ pub disconnect-leaves : (s : State) (id : Text) (sessions : List Session) (reply
     → reply ≡ reason 0 → sessions ≡ map (left_by s.moment id) s.sessions
     → Does s (Disconnect id) reply (record s { sessions = sessions })
 unfolding refusal
-disconnect-leaves s id sessions reply h stays r ss = record {
-  accepted = sym h;
-  reply_is = r;
-  rows = rw stays (record {
-    limits = refl;
-    rules = refl;
-    moment = refl;
-    access = refl;
-    sessions = ss;
-    subscriptions = same-itself s.subscriptions;
-    retained = refl;
-  });
-  filed = λ old. record {
-    filter_keys = old.filter_keys;
-    topic_keys = old.topic_keys;
-    deadlines =
-        old.deadlines;
-  };
-}
+disconnect-leaves s id sessions reply h stays r ss = grind (arith, same-itself)
 
 -- a disconnect is done where the session ends with it: the session and the
 -- client's subscriptions go
@@ -219,32 +168,12 @@ pub disconnect-does : (s : State) (id : Text) (sessions : List Session) (subs : 
     → AreNext s subs (without id s.subscriptions)
     → Does s (Disconnect id) reply
     (record s { sessions = sessions; subscriptions = subs.rows; filter_keys = subs.keys })
-disconnect-does s id sessions subs reply is ends ss next = record {
-  accepted = is.accepted;
-  reply_is = is.reply_is;
-  rows = rw ends (record {
-    limits = refl;
-    rules = refl;
-    moment = refl;
-    access = refl;
-    sessions = ss;
-    subscriptions = next.same;
-    retained = refl;
-  });
-  filed = λ old. record {
-    filter_keys = next.keys old.filter_keys;
-    topic_keys = old.topic_keys;
-    deadlines =
-        old.deadlines;
-  };
-}
+disconnect-does s id sessions subs reply is ends ss next = grind (arith, same-itself)
 
 -- ## Subscribe and unsubscribe
 
 shared-is : (text : Text) → is_some (share_of text) ≡ is_shared text
-shared-is text = elim (is_shared text)
-    as (λ b. is_some (if b then Some (share_name text) else None) ≡ b)
-    [ true ↦ refl | false ↦ refl ]
+shared-is text = grind arith
 
 abbrev shared_condition : Text → SubscriptionOptions → Conditions
 shared_condition text options = (is_shared text && options.no_local, SharedNoLocal) ∷ []
@@ -299,32 +228,12 @@ pub subscribe-does : (s : State) (id text : Text) (options : SubscriptionOptions
     → AreNext s subs (upsert (subscription_of id text options) s.subscriptions)
     → Does s (Subscribe id text options) reply
     (record s { subscriptions = subs.rows; filter_keys = subs.keys })
-subscribe-does s id text options subs reply is next = record {
-  accepted = is.accepted;
-  reply_is = is.reply_is;
-  rows = record {
-    limits = refl;
-    rules = refl;
-    moment = refl;
-    access = refl;
-    sessions = refl;
-    subscriptions = next.same;
-    retained = refl;
-  };
-  filed = λ old. record {
-    filter_keys = next.keys old.filter_keys;
-    topic_keys = old.topic_keys;
-    deadlines =
-        old.deadlines;
-  };
-}
+subscribe-does s id text options subs reply is next = grind (arith, same-itself)
 
 -- a subscribe that doesn't ask for retained messages is sent none
 pub sent-none : (s : State) (new : Subscription) → asks_for_retained s.subscriptions new ≡ false
     → copies_sent s new ≡ []
-sent-none s new e =
-    ap (λ b. if b then retained_copies s.moment s.access (user_of s.sessions new.client) s.retained
-    new else []) e
+sent-none s new e = grind arith
 
 -- a share name makes no difference to the copies
 pub sent-some : (s : State) (new alone : Subscription) → alone ≡ record new { share = None }
@@ -332,10 +241,7 @@ pub sent-some : (s : State) (new alone : Subscription) → alone ≡ record new 
     → copies_sent s new ≡ retained_copies s.moment s.access (user_of s.sessions new.client)
     s.retained alone
 unfolding retained_copies
-sent-some s new alone is e =
-    ap (λ b. if b then retained_copies s.moment s.access (user_of s.sessions new.client) s.retained
-    new else []) e
-    ∙ ap (retained_copies s.moment s.access (user_of s.sessions new.client) s.retained) (sym is)
+sent-some s new alone is e = grind arith
 
 -- an unsubscribe is refused as the conditions on its client say
 pub unsubscribe-client : (s : State) (id text : Text) (r : Refusal)
@@ -370,25 +276,7 @@ pub unsubscribe-does : (s : State) (id text : Text) (subs : SubscriptionsView) (
     (filter (λ x. not (has_key id (share_of text) (filter_part text) x)) s.subscriptions)
     → Does s (Unsubscribe id text) reply
     (record s { subscriptions = subs.rows; filter_keys = subs.keys })
-unsubscribe-does s id text subs reply is next = record {
-  accepted = is.accepted;
-  reply_is = is.reply_is;
-  rows = record {
-    limits = refl;
-    rules = refl;
-    moment = refl;
-    access = refl;
-    sessions = refl;
-    subscriptions = next.same;
-    retained = refl;
-  };
-  filed = λ old. record {
-    filter_keys = next.keys old.filter_keys;
-    topic_keys = old.topic_keys;
-    deadlines =
-        old.deadlines;
-  };
-}
+unsubscribe-does s id text subs reply is next = grind (arith, same-itself)
 
 -- ## Publish
 
@@ -488,26 +376,7 @@ pub publish-does : (s : State) (m : Message) (sessions : List Session) (subs : S
       topic_keys = kept.keys;
       deadlines = kept.pairs;
     })
-publish-does s m sessions subs kept reply is ss next messages = record {
-  accepted = is.accepted;
-  reply_is = is.reply_is;
-  rows = record {
-    limits = refl;
-    rules = refl;
-    moment = refl;
-    access = refl;
-    sessions = ss;
-    subscriptions = next.same;
-    retained = messages.same;
-  };
-  filed = λ old. (let now : AreFiled kept = messages.filed old.topic_keys old.deadlines in
-      record {
-        filter_keys = next.keys old.filter_keys;
-        topic_keys = now.keys;
-        deadlines =
-            now.pairs;
-      });
-}
+publish-does s m sessions subs kept reply is ss next messages = grind (arith, same-itself)
 
 -- ## Access lists
 
@@ -522,26 +391,7 @@ set_acl-refused s text r why = why
 pub set_acl-does : (s : State) (text : Option Text) (reply : Reply) → faulty_line s.rules text ≡ None
     → reply ≡ reason 0 → Does s (SetAcl text) reply (record s { access = access_of s.rules text })
 unfolding refusal
-set_acl-does s text reply h r = record {
-  accepted = ap (λ o. option_map (λ line. AclLine line) o) h;
-  reply_is = r;
-  rows = record {
-    limits = refl;
-    rules = refl;
-    moment = refl;
-    access = refl;
-    sessions = refl;
-    subscriptions =
-        same-itself s.subscriptions;
-    retained = refl;
-  };
-  filed = λ old. record {
-    filter_keys = old.filter_keys;
-    topic_keys = old.topic_keys;
-    deadlines =
-        old.deadlines;
-  };
-}
+set_acl-does s text reply h r = grind (arith, same-itself)
 
 -- ## The clock
 
@@ -589,27 +439,8 @@ pub advance-does : (s : State) (seconds moment : ℕ) (sessions : List Session)
       topic_keys = kept.keys;
       deadlines = kept.pairs;
     })
-advance-does s seconds moment sessions subs kept reply is later next messages = record {
-  accepted = is.accepted;
-  reply_is = is.reply_is;
-  rows = record {
-    limits = refl;
-    rules = refl;
-    moment = later.reached;
-    access = refl;
-    sessions = later.sessions_are
-        ∙ ap (λ n. filter (λ session. not (has_ended n session)) s.sessions) later.reached;
-    subscriptions = same-then _ _ _ next.same
-        (same-is _ _ (ap (λ n. filter (lasts n s.sessions) s.subscriptions) later.reached));
-    retained = messages.same ∙ ap (λ n. without_expired n s.retained) later.reached;
-  };
-  filed = λ old. (let now : AreFiled kept = messages.filed old.topic_keys old.deadlines in
-      record {
-        filter_keys = next.keys old.filter_keys;
-        topic_keys = now.keys;
-        deadlines = now.pairs;
-      });
-}
+advance-does s seconds moment sessions subs kept reply is later next messages =
+    grind (arith, same-then, same-is)
 
 -- ## Counts
 
@@ -617,18 +448,4 @@ advance-does s seconds moment sessions subs kept reply is later next messages = 
 pub stat-does : (s : State) (reply : Reply)
     → reply ≡ record { copies = []; outcome = counts_now s } → Does s Stat reply s
 unfolding refusal
-stat-does s reply r = record {
-  accepted = refl;
-  reply_is = r;
-  rows = record {
-    limits = refl;
-    rules = refl;
-    moment = refl;
-    access = refl;
-    sessions = refl;
-    subscriptions =
-        same-itself s.subscriptions;
-    retained = refl;
-  };
-  filed = λ old. old;
-}
+stat-does s reply r = grind (arith, same-itself)

@@ -1,21 +1,17 @@
 -- The copies of a message, and those that begin to wait, are the same whatever order the subscriptions stand in.
 use Rattle.std.proofs.Common.{◌≡◌, ℕ, ◌==◌, Bool, ◌&&◌, not, List, [], ◌∷◌, map, Option, Some, None}
-use Rattle.std.proofs.Common.{is_some, length, if◌then◌else◌, refl, ◌∙◌, ap}
-use Rattle.std.specs.Option.{option_map_or, option_and_then}
-use Rattle.std.specs.List.{filter, filter_map, cons_option, list_any}
+use Rattle.std.proofs.Common.{length, if◌then◌else◌, refl, ◌∙◌, ap, arith}
+use Rattle.std.specs.List.{filter, filter_map, list_any}
 use Rattle.mq_acl.specs.AccessLists.{AccessList, allowed}
 use Rattle.mq_acl.specs.declared.access.Direction.TheVariants.{Reading}
 use Rattle.mq_world.specs.Lists.{SameElements, Text, greatest, ascending}
 use Rattle.mq_world.specs.World.{Session, Subscription, SubscriptionOptions, Message}
-use Rattle.mq_world.specs.Clock.{deadline_of}
 use Rattle.mq_world.specs.Copies.{takes_part, options_for, copy_by, unshared_copy, unshared_copies}
-use Rattle.mq_world.specs.Waiting.{has_room, with_qos, waiting_copy, with_waiting, waiting_after}
-use Rattle.mq_world.specs.Waiting.{begins_to_wait}
+use Rattle.mq_world.specs.Waiting.{waiting_copy, waiting_after, begins_to_wait}
 use Rattle.mq_world.proofs.ListLemmas.{list_any-same, map-same}
-use Rattle.mq_world.proofs.SameLemmas.{SameElements-filter, SameElements-map}
-use Rattle.mq_world.proofs.SameLemmas.{SameElements-filter_map, length-SameElements}
-use Rattle.mq_world.proofs.SameLemmas.{list_any-SameElements, greatest-SameElements}
-use Rattle.mq_world.proofs.SameLemmas.{ascending-SameElements}
+use Rattle.mq_world.proofs.SameLemmas.{SameElements-filter, SameElements-map, length-SameElements}
+use Rattle.mq_world.proofs.SameLemmas.{SameElements-filter_map, list_any-SameElements}
+use Rattle.mq_world.proofs.SameLemmas.{greatest-SameElements, ascending-SameElements}
 
 unshared_copy-same : (access : Option AccessList) (xs ys : List Subscription) (m : Message)
     (id : Text) (user : Option Text) → SameElements xs ys
@@ -50,17 +46,12 @@ pub unshared_copies-same : (access : Option AccessList) (sessions : List Session
 unfolding unshared_copies
 unshared_copies-same access [] xs ys m same = refl
 unshared_copies-same access (c ∷ cs) xs ys m same =
-    ap (λ o. cons_option o (unshared_copies access cs xs m))
-    (unshared_copy-same access xs ys m c.id c.user same)
-    ∙ ap (cons_option (unshared_copy access ys m c.id c.user))
-    (unshared_copies-same access cs xs ys m same)
+    grind (arith, unshared_copies-same access cs xs ys m same, unshared_copy-same)
 
 waiting_copy-same : (limit : ℕ) (access : Option AccessList) (xs ys : List Subscription)
     (m : Message) (s : Session) → SameElements xs ys
     → waiting_copy limit access xs m s ≡ waiting_copy limit access ys m s
-waiting_copy-same limit access xs ys m s same =
-    ap (λ o. if has_room limit s then option_and_then with_qos o else None)
-    (unshared_copy-same access xs ys m s.id s.user same)
+waiting_copy-same limit access xs ys m s same = grind (arith, unshared_copy-same)
 
 -- whether a copy begins to wait doesn't depend on the order of subscriptions
 pub begins_to_wait-same : (limit : ℕ) (access : Option AccessList) (sessions : List Session)
@@ -68,9 +59,7 @@ pub begins_to_wait-same : (limit : ℕ) (access : Option AccessList) (sessions :
     → begins_to_wait limit access sessions xs m ≡ begins_to_wait limit access sessions ys m
 unfolding begins_to_wait
 begins_to_wait-same limit access sessions xs ys m same =
-    list_any-same (λ s. is_some (waiting_copy limit access xs m s))
-    (λ s. is_some (waiting_copy limit access ys m s))
-    (λ s. ap is_some (waiting_copy-same limit access xs ys m s same)) sessions
+    grind (arith, list_any-same, waiting_copy-same)
 
 -- the sessions after a publish don't depend on the order of subscriptions
 pub waiting_after-same : (limit : ℕ) (access : Option AccessList) (sessions : List Session)
@@ -78,7 +67,4 @@ pub waiting_after-same : (limit : ℕ) (access : Option AccessList) (sessions : 
     → map (waiting_after limit access xs now m) sessions
     ≡ map (waiting_after limit access ys now m) sessions
 waiting_after-same limit access sessions xs ys now m same =
-    map-same (waiting_after limit access xs now m) (waiting_after limit access ys now m)
-    (λ s. ap (λ o. option_map_or
-    (λ copy. with_waiting s (record { copy = copy; deadline = deadline_of now m.expiry }
-    ∷ [])) o s) (waiting_copy-same limit access xs ys m s same)) sessions
+    grind (arith, map-same, waiting_copy-same)

@@ -1,19 +1,17 @@
 -- Members that are served: the world's rows and their turns.
-use Rattle.std.proofs.Common.{◌≡◌, ◌+◌, ◌<◌, arith, Bool, true, false, true≢false, cond, ◌&&◌, ◌||◌}
-use Rattle.std.proofs.Common.{List, [], ◌∷◌, map, length, nat_le, nat_eq, ℕ, Option, Some, None}
-use Rattle.std.proofs.Common.{if◌then◌else◌, refl, sym, ◌∙◌, ap, subst}
+use Rattle.std.proofs.Common.{◌≡◌, ◌+◌, ◌<◌, arith, Bool, true, false, true≢false, cond, ◌||◌, List}
+use Rattle.std.proofs.Common.{[], ◌∷◌, map, length, nat_eq, ℕ, Option, Some, None, refl, sym, ◌∙◌}
+use Rattle.std.proofs.Common.{if◌then◌else◌, ap, subst}
 use Rattle.std.specs.declared.cmp.Ordering.TheVariants.{Less}
 use Rattle.std.specs.Ordering.{is_eq}
-use Rattle.std.specs.List.{filter, filter_map, cons_option, list_any, list_all, AllByRecursion}
-use Rattle.std.specs.List.{IsDistinct}
+use Rattle.std.specs.List.{filter, filter_map, cons_option, list_any, AllByRecursion, IsDistinct}
 use Rattle.std.specs.List.Sorted.{IsStrictlySortedBy}
 use Rattle.std.proofs.lemmas.List.Kept.{IsStrictlySortedBy-filter}
 use Rattle.std.proofs.lemmas.Bool.{and_parts}
 use Rattle.std.proofs.Math.Bool.{or-false}
-use Rattle.mq_world.specs.Lists.{Text, SameElements, same_text}
+use Rattle.mq_world.specs.Lists.{Text, SameElements}
 use Rattle.mq_world.specs.World.{World, IsWorld, Group, Subscription, Row, Message, row_cmp}
-use Rattle.mq_world.specs.World.{subscription_cmp, group_cmp, same_share, is_in_group, rows_in}
-use Rattle.mq_world.specs.World.{same_key}
+use Rattle.mq_world.specs.World.{group_cmp, same_share, is_in_group, rows_in, same_key}
 use Rattle.mq_world.specs.Sessions.{can_be_served}
 use Rattle.mq_world.specs.Copies.{filter_matches}
 use Rattle.mq_subscriptions.specs.Turns.{all_turned}
@@ -23,8 +21,8 @@ use Rattle.mq_world.proofs.ListLemmas.{map-filter, filter-same}
 use Rattle.mq_world.proofs.SameLemmas.{SameElements-map}
 use Rattle.mq_world.proofs.SortedLemmas.{ties}
 use Rattle.mq_world.proofs.BoolLemmas.{pick}
-use Rattle.mq_world.proofs.OrderLemmas.{group_total, all_filtered, all_passed}
-use Rattle.mq_world.proofs.OrderLemmas.{same_share-is, same_text-is, same_text-itself}
+use Rattle.mq_world.proofs.OrderLemmas.{group_total, all_filtered, all_passed, same_share-is}
+use Rattle.mq_world.proofs.OrderLemmas.{same_text-is, same_text-itself}
 use Rattle.mq_subscriptions.proofs.InTurn.{in_group_same}
 use Rattle.mq_world.proofs.Splits.{some_same}
 use Rattle.mq_subscriptions.proofs.TurnLemmas.{StampsBelow, by_turn-filter}
@@ -44,22 +42,13 @@ one_or_none (Some r) = r ∷ []
 same_group : (g k : Group) (x : Subscription) → is_in_group g x ≡ true → is_in_group k x ≡ true
     → ties group_cmp group_total g k ≡ true
 same_group g k x a b =
-    let gs : x.share ≡ Some g.share =
-    same_share-is x.share (Some g.share)
-    (and_parts (same_share x.share (Some g.share)) (same_text x.filter g.filter) a).0 in
-    let ks : x.share ≡ Some k.share =
-    same_share-is x.share (Some k.share)
-    (and_parts (same_share x.share (Some k.share)) (same_text x.filter k.filter) b).0 in
-    let gf : x.filter ≡ g.filter = same_text-is x.filter g.filter
-    (and_parts (same_share x.share (Some g.share)) (same_text x.filter g.filter) a).1 in
-    let kf : x.filter ≡ k.filter = same_text-is x.filter k.filter
-    (and_parts (same_share x.share (Some k.share)) (same_text x.filter k.filter) b).1 in
-    let share : g.share ≡ k.share = some_same (sym gs ∙ ks) in
-    let f : g.filter ≡ k.filter = sym gf ∙ kf in
-    group_tie g k ∙ ap (λ (t : Text). same_text g.share t && same_text g.filter k.filter)
-    (sym share) ∙ ap (λ (t : Text). same_text g.share g.share && same_text g.filter t) (sym f)
-    ∙ ap (λ b. b && same_text g.filter g.filter) (same_text-itself g.share)
-    ∙ same_text-itself g.filter
+    let in_g = and_parts (same_share x.share (Some g.share)) _ a in
+    let in_k = and_parts (same_share x.share (Some k.share)) _ b in
+    let share : g.share ≡ k.share = some_same (sym (same_share-is x.share (Some g.share) in_g.0)
+    ∙ same_share-is x.share (Some k.share) in_k.0) in
+    let f : g.filter ≡ k.filter = sym (same_text-is x.filter g.filter in_g.1)
+    ∙ same_text-is x.filter k.filter in_k.1 in
+    grind (arith, group_tie, share, f, same_text-itself)
 
 module _ (can : Text → Bool) (rows : List Row) where
   abbrev T : Group → Option Row
@@ -70,17 +59,10 @@ module _ (can : Text → Bool) (rows : List Row) where
 
   -- the one whose turn it is is a member
   turn_in : (k : Group) (r : Row) → T k ≡ Some r → is_in_group k r.subscription ≡ true
-  turn_in k r e =
-      found_passes (λ (o : Row). is_in_group k o.subscription ≡ true)
-      (λ row. list_all (λ other. nat_le row.stamp other.stamp) (filter able (rows_in k rows)))
-      (filter able (rows_in k rows)) r e
-      (all_filtered (λ (o : Row). is_in_group k o.subscription ≡ true) able (rows_in k rows)
-      (all_passed (λ (o : Row). is_in_group k o.subscription) rows))
+  turn_in k r e = grind (arith, found_passes, all_filtered, all_passed)
 
   turn_among : (k : Group) (r : Row) → T k ≡ Some r → Among r (rows_in k rows)
-  turn_among k r e =
-      found_among (λ row. list_all (λ other. nat_le row.stamp other.stamp)
-      (filter able (rows_in k rows))) able (rows_in k rows) r e
+  turn_among k r e = grind (arith, found_among)
 
   module _ (g : Group) where
     abbrev mine : Row → Bool
@@ -133,18 +115,7 @@ is_among ss row = list_any (λ other. same_key other.subscription row.subscripti
 among_group : (g : Group) (row : Row) → is_in_group g row.subscription ≡ true → (ss : List Row)
     → is_among ss row ≡ is_among (filter (λ o. is_in_group g o.subscription) ss) row
 among_group g row t [] = refl
-among_group g row t (o ∷ ss) =
-    let rest : List Row = filter (λ x. is_in_group g x.subscription) ss in
-    let P : Bool → Type 0 = λ b. is_in_group g o.subscription ≡ b
-    → (same_key o.subscription row.subscription || is_among ss row)
-    ≡ is_among (cond b (o ∷ rest) rest) row in
-    (elim (is_in_group g o.subscription) as P [
-      | true ↦ λ e. ap (λ b. same_key o.subscription row.subscription || b) (among_group g row t ss)
-      | false ↦ λ e. ap (λ b. b || is_among ss row)
-          (pick (same_key o.subscription row.subscription)
-          (λ y. absurd (true≢false (sym t ∙ in_group_same o.subscription row.subscription g y
-          ∙ e))) (λ n. n)) ∙ among_group g row t ss
-    ]) refl
+among_group g row t (o ∷ ss) = grind (arith, among_group g row t ss, pick, in_group_same)
 
 restamped_in : (n : ℕ) (g : Group) (ss rows : List Row)
     → map (restamp n ss) (rows_in g rows)
@@ -167,19 +138,11 @@ restamped_in n g ss (r ∷ rows) =
 -- new stamps change no subscription
 pub restamped-shown : (n : ℕ) (ss rows : List Row) → shown (map (restamp n ss) rows) ≡ shown rows
 restamped-shown n ss [] = refl
-restamped-shown n ss (r ∷ rows) =
-    ap (λ l. (restamp n ss r).subscription ∷ l) (restamped-shown n ss rows)
-    ∙ ap (λ s. s ∷ shown rows) (same_subscription (is_among ss r))
-  where
-    same_subscription : (b : Bool) → (if b then stamped n r else r).subscription ≡ r.subscription
-    same_subscription true = refl
-    same_subscription false = refl
+restamped-shown n ss (r ∷ rows) = grind (arith, restamped-shown n ss rows, shown, stamped)
 
 restamped-group : (n : ℕ) (ss : List Row) (g : Group) (r : Row)
     → is_in_group g (restamp n ss r).subscription ≡ is_in_group g r.subscription
-restamped-group n ss g r = elim (is_among ss r)
-    as (λ b. is_in_group g (if b then stamped n r else r).subscription
-    ≡ is_in_group g r.subscription) [ true ↦ refl | false ↦ refl ]
+restamped-group n ss g r = grind (arith, stamped)
 
 rows_restamped : (n : ℕ) (ss : List Row) (g : Group) (rows : List Row)
     → rows_in g (map (restamp n ss) rows) ≡ map (restamp n ss) (rows_in g rows)
@@ -240,10 +203,7 @@ module _ (w : World) (h : IsWorld w) (m : Message) where
         → map (restamp w.accepted (r ∷ [])) rows
         ≡ map (λ o. if alike r o then stamped w.accepted o else o) rows
     one_restamped r [] = refl
-    one_restamped r (o ∷ rows) =
-        ap (λ b. (if b then stamped w.accepted o else o) ∷ map (restamp w.accepted (r ∷ [])) rows)
-        (or-false (alike r o)) ∙ ap (λ l. (if alike r o then stamped w.accepted o else o) ∷ l)
-        (one_restamped r rows)
+    one_restamped r (o ∷ rows) = grind (arith, one_restamped r rows, stamped, or-false, alike)
 
     group_by : (e : Option Row) → E ≡ e
         → shown (by_turn (map (restamp w.accepted (one_or_none e)) G))
@@ -264,11 +224,7 @@ module _ (w : World) (h : IsWorld w) (m : Message) where
         (apart-from G (h.apart g)))
 
     pub served-apart : IsDistinct nat_eq (stamps (rows_in g (map (restamp w.accepted S) w.rows)))
-    served-apart =
-        apart-to (rows_in g (map (restamp w.accepted S) w.rows))
-        (subst (λ (l : List Row). AreApart l)
-        (sym (rows_restamped w.accepted S g w.rows ∙ restamped_in w.accepted g S w.rows
-        ∙ ap (λ l. map (restamp w.accepted l) G) few_is)) (apart_by E refl))
+    served-apart = grind (arith, apart-to, rows_restamped, restamped_in, few_is, apart_by)
 
     served_group : filter (is_in_group g) (all_turned (shown S) (in_turn w))
         ≡ filter (is_in_group g) (shown (by_turn (map (restamp w.accepted S) w.rows)))
@@ -304,15 +260,7 @@ restamped_above : (n : ℕ) (ss : List Row) (r : Row) (rows : List Row)
     → AllByRecursion (λ o. row_cmp r o ≡ Less) rows
     → AllByRecursion (λ o. row_cmp (restamp n ss r) o ≡ Less) (map (restamp n ss) rows)
 restamped_above n ss r [] h = tt
-restamped_above n ss r (o ∷ rows) h = (
-  ap (λ s. subscription_cmp s (restamp n ss o).subscription) (of r)
-      ∙ ap (subscription_cmp r.subscription) (of o) ∙ h.0,
-  restamped_above n ss r rows h.1,
-)
-  where
-    of : (x : Row) → (restamp n ss x).subscription ≡ x.subscription
-    of x = elim (is_among ss x) as (λ b. (if b then stamped n x else x).subscription
-        ≡ x.subscription) [ true ↦ refl | false ↦ refl ]
+restamped_above n ss r (o ∷ rows) h = grind (arith, restamped_above n ss r rows h.1, stamped)
 
 -- new stamps leave rows in their order
 pub restamped-sorted : (n : ℕ) (ss rows : List Row) → IsStrictlySortedBy row_cmp rows
@@ -326,9 +274,4 @@ restamped-sorted n ss (r ∷ rows) s =
 pub restamped-below : (n : ℕ) (ss rows : List Row) → StampsBelow n rows
     → StampsBelow (n + 1) (map (restamp n ss) rows)
 restamped-below n ss [] h = tt
-restamped-below n ss (r ∷ rows) h = (
-  (let here : r.stamp < n = h.0 in
-      elim (is_among ss r) as (λ b. (if b then stamped n r else r).stamp < n + 1)
-      [ true ↦ omega arith | false ↦ omega arith ]),
-  restamped-below n ss rows h.1,
-)
+restamped-below n ss (r ∷ rows) h = grind (arith, restamped-below n ss rows h.1, stamped)

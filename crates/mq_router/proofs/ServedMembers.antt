@@ -1,6 +1,6 @@
 -- The members that are served, as they are gathered by share name.
-use Rattle.std.proofs.Common.{◌≡◌, Bool, true, false, true≢false, cond, not, ◌&&◌, ◌||◌, List, []}
-use Rattle.std.proofs.Common.{◌∷◌, ◌++◌, map, Option, Some, None, is_some, refl, sym, ◌∙◌, ap}
+use Rattle.std.proofs.Common.{◌≡◌, Bool, true, false, true≢false, ◌&&◌, ◌||◌, List, [], ◌∷◌, ◌++◌}
+use Rattle.std.proofs.Common.{map, Option, Some, None, is_some, refl, sym, ◌∙◌, ap, arith}
 use Rattle.std.proofs.lemmas.Bool.{and_right}
 use Rattle.std.specs.Rc.{rc_str_bytes}
 use Rattle.std.specs.declared.cmp.Ordering.TheVariants.{Less}
@@ -19,22 +19,18 @@ use Rattle.mq_acl.specs.AccessLists.{AccessList}
 use Rattle.mq_world.specs.Sessions.{is_reader}
 use Rattle.mq_world.specs.Lists.{Text, same_text, text_cmp, in_order}
 use Rattle.mq_world.specs.World.{Session, Subscription, Group, Message, group_cmp, is_in_group}
-use Rattle.mq_world.specs.World.{same_share}
-use Rattle.mq_subscriptions.specs.Turns.{groups_among, next_members}
+use Rattle.mq_subscriptions.specs.Turns.{groups_among, next_members, shares_of, turns_listed}
+use Rattle.mq_subscriptions.specs.Turns.{turn_of, turns_of}
 use Rattle.mq_world.specs.Copies.{filter_matches}
-use Rattle.mq_subscriptions.specs.Filters.{Entry, AreHere, AreEntriesFor, is_text, is_empty}
-use Rattle.mq_subscriptions.specs.Matches.{AreAscending}
-use Rattle.mq_subscriptions.specs.Turns.{shares_of, turns_listed}
-use Rattle.mq_subscriptions.specs.Turns.{turn_of}
-use Rattle.mq_subscriptions.specs.Matches.{rows_found}
-use Rattle.mq_subscriptions.specs.Turns.{turns_of}
+use Rattle.mq_subscriptions.specs.Filters.{Entry, AreHere, AreEntriesFor, is_text}
+use Rattle.mq_subscriptions.specs.Matches.{AreAscending, rows_found}
 use Rattle.mq_router.specs.delivery.Copies.{turns_at}
 use Rattle.mq_world.proofs.ListLemmas.{list_any-map, list_any-same, any-append}
 use Rattle.mq_world.proofs.OrderLemmas.{group_total, level_equal, all_append, text_flip}
+use Rattle.mq_world.proofs.OrderLemmas.{same_text-is, same_text-itself}
 use Rattle.mq_world.proofs.SortedLemmas.{sorted-in_order, any-in_order, ties, same_gathered}
 use Rattle.mq_world.proofs.SortedLemmas.{any-filter, sorted-append}
 use Rattle.mq_world.proofs.BoolLemmas.{pick}
-use Rattle.mq_world.proofs.OrderLemmas.{same_text-is, same_text-itself}
 use Rattle.mq_subscriptions.proofs.TextMaps.{is_text-is, key_text}
 use Rattle.mq_subscriptions.proofs.AscendingLemmas.{by_each_key, none_there}
 use Rattle.mq_router.proofs.GroupLemmas.{group_tie, group_tied, groups-sorted, groups-any, shown}
@@ -54,20 +50,13 @@ far a (b ∷ ats) h = (differ a.filter b.filter h.0, far a ats h.1)
 not_here : (g : Group) (f : Text) → same_text f g.filter ≡ false → (xs : List Subscription)
     → AllByRecursion (λ x. x.filter ≡ f) xs → filter (is_in_group g) xs ≡ []
 not_here g f n [] h = refl
-not_here g f n (x ∷ xs) h =
-    ap (λ b. cond b (x ∷ filter (is_in_group g) xs) (filter (is_in_group g) xs))
-    (and_right (same_share x.share (Some g.share)) (same_text x.filter g.filter)
-    (ap (λ (t : Text). same_text t g.filter) h.0 ∙ n))
-    ∙ not_here g f n xs h.1
+not_here g f n (x ∷ xs) h = grind (arith, not_here g f n xs h.1, and_right)
 
 none_found : (g : Group) (ats : List Entry) → AllByRecursion AreHere ats
     → AllByRecursion (λ (b : Entry). same_text b.filter g.filter ≡ false) ats
     → filter (is_in_group g) (rows_found ats) ≡ []
 none_found g [] h n = refl
-none_found g (a ∷ ats) h n =
-    filter-append (is_in_group g) a.rows (rows_found ats)
-    ∙ ap (λ l. l ++ filter (is_in_group g) (rows_found ats)) (not_here g a.filter n.0 a.rows h.0)
-    ∙ none_found g ats h.1 n.1
+none_found g (a ∷ ats) h n = grind (arith, none_found g ats h.1 n.1, filter-append, not_here)
 
 flipped : (f : Text) (ats : List Entry)
     → AllByRecursion (λ (b : Entry). same_text f b.filter ≡ false) ats
@@ -159,18 +148,7 @@ some_gives : {Y : Type 0} (h : Group → Option Y) (g : Group) → is_some (h g)
     → ⊥
 some_gives h g e [] t none = true≢false (sym t)
 some_gives h g e (x ∷ xs) t none =
-    pick (ties group_cmp group_total g x)
-    (λ same. never (h x) (ap (λ k. is_some (h k)) (sym (group_tied g x same)) ∙ e) none)
-    (λ f. some_gives h g e xs (ap (λ b. b || list_any (ties group_cmp group_total g) xs) (sym f)
-    ∙ t) (rest (h x) none))
-  where
-    never : (o : Option _) → is_some o ≡ true → cons_option o (filter_map h xs) ≡ [] → ⊥
-    never None s n = true≢false (sym s)
-    never (Some y) s n = (let no : y ∷ filter_map h xs ≡ [] = n in cc)
-
-    rest : (o : Option _) → cons_option o (filter_map h xs) ≡ [] → filter_map h xs ≡ []
-    rest None n = n
-    rest (Some y) n = absurd (let no : y ∷ filter_map h xs ≡ [] = n in cc)
+    grind (arith, some_gives h g e xs, pick, ties, group_total, group_tied)
 
 -- the filter of a group with a member is one of those that are found
 member_found : (g : Group) (ats : List Entry) → AllByRecursion AreHere ats
@@ -200,23 +178,14 @@ found_matches topic g (a ∷ ats) m t =
 
 some_member : (p q : Subscription → Bool) (xs : List Subscription)
     → is_some (find p (filter q xs)) ≡ true → list_any q xs ≡ true
-some_member p q xs h = any-shown (filter q xs) refl
-  where
-    any-shown : (l : List Subscription) → filter q xs ≡ l → list_any q xs ≡ true
-    any-shown [] e = absurd (true≢false (sym (sym (ap (λ l. is_some (find p l)) e) ∙ h)))
-    any-shown (y ∷ l) e = shown q xs ∙ ap (λ l. not (is_empty l)) e
+some_member p q xs h = grind (arith, shown)
 
 turns_of_each : (turns : List Turn) (T : Text → List Subscription)
     → ((share : Text) → turns_listed share turns ≡ T share) → (shares : List Text)
     → map turn_of (flat_map (λ share. filter (λ t. same_text (rc_str_bytes t.share) share) turns)
     shares) ≡ flat_map T shares
 turns_of_each turns T h [] = refl
-turns_of_each turns T h (share ∷ shares) =
-    map-append turn_of (filter (λ t. same_text (rc_str_bytes t.share) share) turns)
-    (flat_map (λ share. filter (λ t. same_text (rc_str_bytes t.share) share) turns) shares)
-    ∙ ap (λ xs. xs ++ map turn_of
-    (flat_map (λ share. filter (λ t. same_text (rc_str_bytes t.share) share) turns) shares))
-    (h share) ∙ ap (λ xs. T share ++ xs) (turns_of_each turns T h shares)
+turns_of_each turns T h (share ∷ shares) = grind (arith, turns_of_each turns T h shares, map-append)
 
 module _ (may : Subscription → Bool) where
   abbrev next_of : List Subscription → Group → Option Subscription
@@ -270,9 +239,7 @@ pairs_apart : {Y : Type 0} (h : Group → Option Y) (ats : List Entry) (T : Text
     → flat_map T shares ≡ filter_map h (all_pairs ats shares)
 pairs_apart h ats T e [] = refl
 pairs_apart h ats T e (share ∷ shares) =
-    ap (λ l. l ++ flat_map T shares) (e share)
-    ∙ ap (λ l. filter_map h (pairs ats share) ++ l) (pairs_apart h ats T e shares)
-    ∙ sym (filter_map-append h (pairs ats share) (all_pairs ats shares))
+    grind (arith, pairs_apart h ats T e shares, filter_map-append)
 
 -- members gathered in the order of share names, for each the ones in turn at the filters
 -- found, are those that the message serves

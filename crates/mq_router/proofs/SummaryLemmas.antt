@@ -1,7 +1,7 @@
 -- Summaries of options.
-use Rattle.std.proofs.Common.{◌≡◌, ℕ, Bool, true, false, not, ◌==◌, List, [], ◌∷◌, ◌++◌, map}
-use Rattle.std.proofs.Common.{length, max, Some, None, refl, sym, ap, arith}
-use Rattle.std.specs.List.{filter_map, cons_option}
+use Rattle.std.proofs.Common.{◌≡◌, ℕ, Bool, true, false, not, ◌==◌, List, [], ◌∷◌, ◌++◌, map, max}
+use Rattle.std.proofs.Common.{length, Some, None, refl, sym, arith}
+use Rattle.std.specs.List.{filter_map}
 use Rattle.mq_world.specs.Lists.{greatest}
 use Rattle.mq_world.specs.World.{SubscriptionOptions}
 use Rattle.mq_router.specs.delivery.Summaries.{Summary, summary_of, summary_for, together}
@@ -20,23 +20,13 @@ greatest-both : (xs ys : List SubscriptionOptions)
     → greatest (map (λ o. o.qos) (xs ++ ys))
     ≡ max (greatest (map (λ o. o.qos) xs)) (greatest (map (λ o. o.qos) ys))
 greatest-both [] ys = omega arith
-greatest-both (x ∷ xs) ys = let h : greatest (map (λ o. o.qos) (xs ++ ys))
-    ≡ max (greatest (map (λ o. o.qos) xs)) (greatest (map (λ o. o.qos) ys)) = greatest-both xs ys in
-    omega arith
+greatest-both (x ∷ xs) ys = grind (arith, greatest-both xs ys)
 
 identifiers-both : (xs ys : List SubscriptionOptions)
     → filter_map (λ o. o.identifier) (xs ++ ys) ≡ filter_map (λ o. o.identifier) xs
     ++ filter_map (λ o. o.identifier) ys
 identifiers-both [] ys = refl
-identifiers-both (x ∷ xs) ys =
-    let rest = identifiers-both xs ys in
-    elim x.identifier
-    as (λ o. cons_option o (filter_map (λ (y : SubscriptionOptions). y.identifier) (xs ++ ys))
-    ≡ cons_option o (filter_map (λ (y : SubscriptionOptions). y.identifier) xs)
-    ++ filter_map (λ (y : SubscriptionOptions). y.identifier) ys) [
-      | None ↦ rest
-      | Some n ↦ ap (λ l. n ∷ l) rest
-    ]
+identifiers-both (x ∷ xs) ys = grind (arith, identifiers-both xs ys)
 
 -- the summary of two lists of options is made of those of each
 pub summary_of-append : (xs ys : List SubscriptionOptions)

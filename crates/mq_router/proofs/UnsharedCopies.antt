@@ -1,11 +1,11 @@
 -- The copies for clients in their own name that are sent or begin to wait, as they are gathered.
 use Rattle.std.proofs.Common.{◌≡◌, ◌==◌, ℕ, Bool, true, false, true≢false, cond, not, is_none, ◌&&◌}
-use Rattle.std.proofs.Common.{◌||◌, List, [], ◌∷◌, map, length, Option, Some, None, is_some}
-use Rattle.std.proofs.Common.{if◌then◌else◌, refl, sym, ◌∙◌, ap}
+use Rattle.std.proofs.Common.{◌||◌, List, [], ◌∷◌, map, length, Option, Some, None, is_some, refl}
+use Rattle.std.proofs.Common.{if◌then◌else◌, sym, ◌∙◌, ap, arith}
 use Rattle.std.specs.declared.cmp.Ordering.TheVariants.{Less}
 use Rattle.std.specs.Cmp.Lexicographic.{nat_list_cmp_total}
 use Rattle.std.specs.Option.{option_map, option_map_or, option_and_then}
-use Rattle.std.specs.List.{filter, filter_map, cons_option, find, list_any, AllByRecursion}
+use Rattle.std.specs.List.{filter, filter_map, find, list_any, AllByRecursion}
 use Rattle.std.specs.List.Sorted.{IsStrictlySortedBy}
 use Rattle.std.specs.Map.{lookup, keys_of}
 use Rattle.std.proofs.lemmas.Bool.{and_parts}
@@ -17,12 +17,12 @@ use Rattle.mq_world.specs.World.{Session, Subscription, Message, Copy, session_c
 use Rattle.mq_world.specs.Sessions.{session_of, is_present, connected, user_of}
 use Rattle.mq_world.specs.Waiting.{has_room, with_qos}
 use Rattle.mq_sessions.specs.Queue.{QueueItem, queue_item}
-use Rattle.mq_router.specs.delivery.Copies.{begins, queued_by}
-use Rattle.mq_world.specs.Copies.{filter_matches, takes_part, options_for, copy_by, unshared_copy}
+use Rattle.mq_router.specs.delivery.Copies.{begins, queued_by, gives, gives_options, copies_by}
+use Rattle.mq_router.specs.delivery.Copies.{queue_items_by}
+use Rattle.mq_world.specs.Copies.{filter_matches, takes_part, options_for, unshared_copy}
 use Rattle.mq_world.specs.Copies.{unshared_copies}
 use Rattle.mq_subscriptions.specs.Filters.{is_text}
 use Rattle.mq_router.specs.delivery.Summaries.{Summary, summary_of, summary_for, copy_from}
-use Rattle.mq_router.specs.delivery.Copies.{gives, gives_options, copies_by, queue_items_by}
 use Rattle.mq_world.proofs.ListLemmas.{filter-same, filter_map-same, filter_map-filter}
 use Rattle.mq_world.proofs.ListLemmas.{list_any-map, list_any-same, is_some-find}
 use Rattle.mq_world.proofs.SameLemmas.{filter-filter}
@@ -106,11 +106,7 @@ each_shown {V} {W} show (l ∷ L) T s h =
 unfound : {V : Type 0} (key : Text) (L : List (Text × V))
     → list_any (is_text key) (keys_of L) ≡ false → lookup (is_text key) L ≡ None
 unfound key [] h = refl
-unfound key (l ∷ L) h =
-    pick (is_text key l.0)
-    (λ t. absurd (true≢false (sym (ap (λ b. b || list_any (is_text key) (keys_of L)) t) ∙ h)))
-    (λ f. ap (λ b. cond b (Some l.1) (lookup (is_text key) L)) f
-    ∙ unfound key L (ap (λ b. b || list_any (is_text key) (keys_of L)) (sym f) ∙ h))
+unfound key (l ∷ L) h = grind (arith, unfound key L, pick)
 
 -- ## By client
 
@@ -147,21 +143,7 @@ module _ {X : Type 0} (test : Session → Bool) (make : Text → Summary → Opt
   by_ids : (ss : List Session) → AllByRecursion (λ s. session_of sessions s.id ≡ Some s) ss
       → filter_map deliveries_for ss ≡ filter_map H (ids ss)
   by_ids [] h = refl
-  by_ids (s ∷ ss) h =
-      let there : passes s.id ≡ test s =
-      ap (λ (o : Option Session). option_map_or test o false) h.0 in
-      let user : user_of sessions s.id ≡ s.user =
-      ap (option_and_then (λ (x : Session). x.user)) h.0 in
-      let rest : List X = filter_map deliveries_for ss in
-      ap (λ o. cons_option o rest)
-      (nested (test s) (not (length (O s.id) == 0)) (may s.id s.user)
-      (make s.id (summary_of (O s.id))))
-      ∙ ap (λ u. cons_option (if test s && not (length (O s.id) == 0) && may s.id u then
-      make s.id (summary_of (O s.id)) else None) rest) (sym user)
-      ∙ ap (λ b. cons_option (if b && not (length (O s.id) == 0)
-      && may s.id (user_of sessions s.id) then make s.id (summary_of (O s.id)) else None)
-      rest) (sym there)
-      ∙ ap (cons_option (H s.id)) (by_ids ss h.1)
+  by_ids (s ∷ ss) h = grind (arith, by_ids ss h.1, nested)
 
   and_third : (a b c : Bool) → b ≡ true → (a && c) ≡ (a && b && c)
   and_third a b c e = ap (λ v. v && c) (sym (and-true a)) ∙ ap (λ v. a && v && c) (sym e)
@@ -170,14 +152,7 @@ module _ {X : Type 0} (test : Session → Bool) (make : Text → Summary → Opt
       → AllByRecursion (λ (l : Text × Summary). Some l.1 ≡ summary_for (O l.0)) L
       → filter_map made_by L ≡ filter_map H (keys_of L)
   by_keys [] h = refl
-  by_keys (l ∷ L) h =
-      let is = summarized (O l.0) l.1 (sym h.0) in
-      ap (λ b. cons_option (if b then make l.0 l.1 else None) (filter_map made_by L))
-      (and_third (passes l.0) (not (length (O l.0) == 0)) (may l.0 (user_of sessions l.0)) is.0)
-      ∙ ap (λ (s : Summary). cons_option (if passes l.0 && not (length (O l.0) == 0)
-      && may l.0 (user_of sessions l.0) then make l.0 s else None) (filter_map made_by L))
-      is.1
-      ∙ ap (cons_option (H l.0)) (by_keys L h.1)
+  by_keys (l ∷ L) h = grind (arith, by_keys L h.1, summarized, and_third)
 
   given : (b : Bool) (o : Option X) → is_some (if b then o else None) ≡ true → b ≡ true
   given true o h = refl
@@ -253,10 +228,7 @@ unshared-queued limit access sessions subscriptions m deadline L s t found =
 
     each : (x : Session) → deliveries_for (has_room limit) begin access sessions subscriptions m x
         ≡ begins limit access subscriptions m deadline x
-    each x =
-        let os : List world.SubscriptionOptions = options_for subscriptions m x.id in
-        onto (has_room limit x) (not (length os == 0) && allowed access x.id x.user m.topic Reading)
-        x.id (copy_by x.id None m os)
+    each x = grind (arith, onto)
 
 -- ## What takes part among those that match
 

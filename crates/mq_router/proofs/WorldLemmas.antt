@@ -1,46 +1,36 @@
 -- What the router does by its own state, it does for each world that it stands for.
-use Rattle.std.proofs.Common.{◌≡◌, ℕ, ◌+◌, ◌==◌, nat_lt, Bool, true, false, cond, ◌&&◌, ◌||◌, not}
-use Rattle.std.proofs.Common.{List, [], ◌∷◌, ◌++◌, map, Option, Some, None, is_none, Result, Ok}
-use Rattle.std.proofs.Common.{Err, length, if◌then◌else◌, refl, sym, ◌∙◌, ap, subst, inl, inr}
-use Rattle.std.proofs.Common.{arith}
+use Rattle.std.proofs.Common.{◌≡◌, ℕ, ◌+◌, ◌==◌, Bool, true, false, ◌&&◌, ◌||◌, not, List, [], ◌∷◌}
+use Rattle.std.proofs.Common.{map, Option, is_none, Result, Ok, Err, length, if◌then◌else◌, refl}
+use Rattle.std.proofs.Common.{sym, ◌∙◌, ap, subst, inr, arith}
 use Rattle.std.specs.Option.{option_map}
-use Rattle.std.specs.List.{filter, filter_map, cons_option, find, list_any}
+use Rattle.std.specs.List.{filter, filter_map, find, list_any}
 use Rattle.std.proofs.lemmas.List.{length-map}
 use Rattle.std.proofs.lemmas.Simd.{map-map}
 use Rattle.mq_topic.specs.Levels.{levels}
-use Rattle.mq_topic.specs.Texts.{is_name, is_shared, is_subscription, share_of, filter_part}
-use Rattle.mq_acl.specs.AccessLists.{AccessList, allowed}
-use Rattle.mq_acl.specs.declared.access.Direction.TheVariants.{Writing}
-use Rattle.mq_world.specs.Lists.{SameElements, Text, same_text, with_row}
-use Rattle.mq_world.specs.World.{World, Limits, IsWorld, Group, Session, Subscription, Row}
-use Rattle.mq_world.specs.World.{Retained, Message, Copy, Reply, Request, Connect, Disconnect}
-use Rattle.mq_world.specs.World.{Subscribe, Unsubscribe, Publish, SetAcl, Advance, Stat}
-use Rattle.mq_world.specs.World.{subscription_of}
-use Rattle.mq_world.specs.World.{session_cmp, has_id, has_key, same_key, is_in_group, rows_in}
-use Rattle.mq_world.specs.World.{subscriptions_of}
-use Rattle.mq_world.specs.Clock.{last_moment}
-use Rattle.mq_world.specs.Sessions.{new_session, connected, user_of, is_reader, can_be_served}
-use Rattle.mq_world.specs.Sessions.{outlives, resumes, left_by, has_ended}
-use Rattle.mq_world.specs.Waiting.{begins_to_wait, waiting_after, resumed_copies}
+use Rattle.mq_topic.specs.Texts.{share_of, filter_part}
+use Rattle.mq_acl.specs.AccessLists.{AccessList}
+use Rattle.mq_world.specs.Lists.{SameElements, Text, same_text}
+use Rattle.mq_world.specs.World.{World, IsWorld, Group, Session, Subscription, Row, Message, Copy}
+use Rattle.mq_world.specs.World.{Retained, Reply, Request, Connect, Disconnect, Subscribe, Publish}
+use Rattle.mq_world.specs.World.{Unsubscribe, SetAcl, Advance, Stat, subscription_of, has_id}
+use Rattle.mq_world.specs.World.{has_key, same_key, is_in_group, rows_in, subscriptions_of}
+use Rattle.mq_world.specs.Sessions.{user_of, is_reader, can_be_served, outlives, resumes, left_by}
+use Rattle.mq_world.specs.Waiting.{begins_to_wait}
 use Rattle.mq_world.specs.Refusals.{acl_refusal, first_refusal, client_conditions, refusal}
-use Rattle.mq_world.specs.Copies.{unshared_copies, filter_matches}
+use Rattle.mq_world.specs.Copies.{filter_matches}
 use Rattle.mq_world.specs.Groups.{groups_of, turn_of, served_rows, served_by}
-use Rattle.mq_world.specs.Retained.{retained_copies, retained_after, is_full, without_expired}
+use Rattle.mq_world.specs.Retained.{retained_copies}
 use Rattle.mq_world.specs.Counts.{filters_of, topics_of, counts, steps}
-use Rattle.mq_retained.specs.Deadlines.{Indexes, is_due}
-use Rattle.mq_retained.specs.Receivers.{steps_among}
-use Rattle.mq_world.specs.Answers.{answer, reason, publish_reply, copies_of}
-use Rattle.mq_world.specs.After.{access_of, after, without_client}
+use Rattle.mq_world.specs.Answers.{answer}
+use Rattle.mq_world.specs.After.{after, without_client}
 use Rattle.mq_world.specs.Turns.{by_turn, in_turn, SameInTurn}
 use Rattle.mq_router.specs.StandsFor.{State, Holds, StandsFor, Answers, AnswersFor, CountsFor}
 use Rattle.mq_router.specs.StandsFor.{Refuses}
 use Rattle.mq_router.specs.router.Effects.{Applied, CountsSteps, Does, IsFiled, world_of, reply_to}
-use Rattle.mq_router.specs.router.Effects.{counts_now, steps_to, change_state, member_copy, without}
-use Rattle.mq_router.specs.router.Effects.{lasts}
+use Rattle.mq_router.specs.router.Effects.{counts_now, steps_to, change_state, without, lasts}
 use Rattle.mq_subscriptions.specs.Turns.{next_in, next_members, all_turned}
 use Rattle.mq_world.specs.Views.{reply_of}
-use Rattle.mq_topic.specs.Prefixes.{capped}
-use Rattle.mq_topic.specs.Prefixes.{prefixes, met_by_name}
+use Rattle.mq_topic.specs.Prefixes.{capped, prefixes, met_by_name}
 use Rattle.mq_world.proofs.ListLemmas.{map-filter}
 use Rattle.mq_world.proofs.SameLemmas.{SameElements-map, length-SameElements, list_any-SameElements}
 use Rattle.mq_subscriptions.proofs.InTurn.{same-is, same-then, same-filter, joined-same}
@@ -51,15 +41,13 @@ use Rattle.mq_subscriptions.proofs.OneServed.{shown}
 use Rattle.mq_router.proofs.ServeTurn.{serves}
 use Rattle.mq_router.proofs.GroupLemmas.{groups-same, groups-shown}
 use Rattle.mq_subscriptions.proofs.KeyLemmas.{filters-same}
-use Rattle.mq_router.proofs.SameCopies.{unshared_copies-same, begins_to_wait-same, waiting_after-same}
+use Rattle.mq_router.proofs.SameCopies.{unshared_copies-same, begins_to_wait-same}
+use Rattle.mq_router.proofs.SameCopies.{waiting_after-same}
 use Rattle.mq_router.proofs.NextLemmas.{gone, after-is_world}
 use Rattle.mq_world.specs.declared.answer.Answer.{Answer}
 use Rattle.mq_world.specs.declared.answer.Outcome.{Outcome}
-use Rattle.mq_world.specs.declared.answer.Outcome.TheVariants.{Reason, Counts}
+use Rattle.mq_world.specs.declared.answer.Outcome.TheVariants.{Counts}
 use Rattle.mq_world.specs.declared.refusal.Refusal.{Refusal}
-use Rattle.mq_world.specs.declared.refusal.Refusal.TheVariants.{TopicName, TopicFilter}
-use Rattle.mq_world.specs.declared.refusal.Refusal.TheVariants.{SharedNoLocal, NotAuthorized}
-use Rattle.mq_world.specs.declared.refusal.Refusal.TheVariants.{RetainedFull, ClockTooFar}
 
 -- the subscriptions in turn are those of the rows
 turn_shown : (w : World) → SameElements (in_turn w) (subscriptions_of w)
@@ -82,36 +70,15 @@ module _ (s : State) (w : World) (h : HasRows s w) where
 
   -- ## Refusals
 
-  abbrev publish_refusal : Option AccessList → List Session → Limits → List Retained → Message
-      → Option Refusal
-  publish_refusal access sessions limits retained m =
-      first_refusal (client_conditions sessions m.publisher
-      ++ (not (is_name m.topic), TopicName)
-      ∷ (
-        not (allowed access m.publisher (user_of sessions m.publisher) m.topic Writing),
-        NotAuthorized,
-      )
-      ∷ (is_full limits.retained retained m, RetainedFull) ∷ [])
-
   pub refusal-held : (request : Request) → refusal (world_of s) request ≡ refusal w request
   unfolding refusal
   refusal-held (Connect id user clean interval) = refl
   refusal-held (Disconnect id) = ap (λ ss. first_refusal (client_conditions ss id)) h.sessions
-  refusal-held (Subscribe id text options) =
-      ap (λ ss. first_refusal (client_conditions ss id ++ (not (is_subscription text), TopicFilter)
-      ∷ (is_shared text && options.no_local, SharedNoLocal) ∷ [])) h.sessions
-  refusal-held (Unsubscribe id text) =
-      ap (λ ss. first_refusal (client_conditions ss id ++ (not (is_subscription text), TopicFilter)
-      ∷ [])) h.sessions
-  refusal-held (Publish m) =
-      ap (λ access. publish_refusal access s.sessions s.limits s.retained m) h.access
-      ∙ ap (λ ss. publish_refusal w.access ss s.limits s.retained m) h.sessions
-      ∙ ap (λ limits. publish_refusal w.access w.sessions limits s.retained m) h.limits
-      ∙ ap (λ retained. publish_refusal w.access w.sessions w.limits retained m) h.retained
+  refusal-held (Subscribe id text options) = grind arith
+  refusal-held (Unsubscribe id text) = grind arith
+  refusal-held (Publish m) = grind arith
   refusal-held (SetAcl text) = ap (λ rules. acl_refusal rules text) h.rules
-  refusal-held (Advance seconds) =
-      ap (λ moment. first_refusal ((nat_lt last_moment (moment + seconds), ClockTooFar) ∷ []))
-      h.moment
+  refusal-held (Advance seconds) = grind arith
   refusal-held Stat = refl
 
   -- ## Who is served
@@ -120,13 +87,7 @@ module _ (s : State) (w : World) (h : HasRows s w) where
       → option_map (λ (r : Row). r.subscription) (find (λ (r : Row). p r.subscription) rows)
       ≡ find p (shown rows)
   shown_find p [] = refl
-  shown_find p (r ∷ rows) =
-      elim (p r.subscription) as (λ b. option_map (λ (o : Row). o.subscription)
-      (cond b (Some r) (find (λ (o : Row). p o.subscription) rows))
-      ≡ cond b (Some r.subscription) (find p (shown rows))) [
-        | true ↦ refl
-        | false ↦ shown_find p rows
-      ]
+  shown_find p (r ∷ rows) = grind (arith, shown_find p rows, shown)
 
   turn-held : (topic : Text) (g : Group) → next_in s.access s.sessions s.subscriptions topic g
       ≡ option_map (λ (r : Row). r.subscription) (turn_of (can_be_served w topic) w.rows g)
@@ -147,18 +108,7 @@ module _ (s : State) (w : World) (h : HasRows s w) where
       → filter_map (next_in s.access s.sessions s.subscriptions topic) gs
       ≡ shown (filter_map (turn_of (can_be_served w topic) w.rows) gs)
   each_turn topic [] = refl
-  each_turn topic (g ∷ gs) =
-      ap (λ o. cons_option o (filter_map (next_in s.access s.sessions s.subscriptions topic) gs))
-      (turn-held topic g)
-      ∙ ap (cons_option (option_map (λ (r : Row). r.subscription)
-      (turn_of (can_be_served w topic) w.rows g))) (each_turn topic gs)
-      ∙ onto (turn_of (can_be_served w topic) w.rows g)
-    where
-      onto : (o : Option Row) → cons_option (option_map (λ (r : Row). r.subscription) o)
-          (shown (filter_map (turn_of (can_be_served w topic) w.rows) gs))
-          ≡ shown (cons_option o (filter_map (turn_of (can_be_served w topic) w.rows) gs))
-      onto None = refl
-      onto (Some r) = refl
+  each_turn topic (g ∷ gs) = grind (arith, each_turn topic gs, turn-held, shown)
 
   pub served-held : (m : Message) → next_members s.access s.sessions s.subscriptions m
       ≡ shown (served_by w m)
@@ -186,61 +136,22 @@ module _ (s : State) (w : World) (h : HasRows s w) where
       (list_any (same_key new) s.subscriptions)
       ≡ sent_by w.moment w.access w.sessions w.retained new
       (list_any (same_key new) (subscriptions_of w))
-  sent-held new =
-      let exists : Bool = list_any (same_key new) (subscriptions_of w) in
-      ap (sent_by s.moment s.access s.sessions s.retained new)
-      (list_any-SameElements (same_key new) s.subscriptions (subscriptions_of w) all_shown)
-      ∙ ap (λ moment. sent_by moment s.access s.sessions s.retained new exists) h.moment
-      ∙ ap (λ access. sent_by w.moment access s.sessions s.retained new exists) h.access
-      ∙ ap (λ sessions. sent_by w.moment w.access sessions s.retained new exists) h.sessions
-      ∙ ap (λ retained. sent_by w.moment w.access w.sessions retained new exists) h.retained
-
-  -- what a connect is answered, by what it depends on
-  abbrev resumed_reply : ℕ → List Session → Text → Bool → Reply
-  resumed_reply moment sessions id clean =
-      record { copies = resumed_copies moment sessions id clean; outcome = Reason 0 }
+  sent-held new = grind (arith, list_any-SameElements, all_shown)
 
   waits-held : (m : Message) → begins_to_wait s.limits.queued s.access s.sessions s.subscriptions m
       ≡ begins_to_wait w.limits.queued w.access w.sessions (subscriptions_of w) m
-  waits-held m =
-      ap (λ (limits : Limits). begins_to_wait limits.queued s.access s.sessions s.subscriptions m)
-      h.limits
-      ∙ ap (λ access. begins_to_wait w.limits.queued access s.sessions s.subscriptions m) h.access
-      ∙ ap (λ sessions. begins_to_wait w.limits.queued w.access sessions s.subscriptions m)
-      h.sessions
-      ∙ begins_to_wait-same w.limits.queued w.access w.sessions s.subscriptions (subscriptions_of w)
-      m all_shown
+  waits-held m = grind (arith, begins_to_wait-same, all_shown)
 
   pub answer-held : counts_now s ≡ counts w → (request : Request)
       → reply_to s request ≡ answer w request
   unfolding answer
-  answer-held shown (Connect id user clean interval) =
-      ap (λ moment. resumed_reply moment s.sessions id clean) h.moment
-      ∙ ap (λ ss. resumed_reply w.moment ss id clean) h.sessions
+  answer-held shown (Connect id user clean interval) = grind arith
   answer-held shown (Disconnect id) = refl
   answer-held shown (Subscribe id text options) =
-      ap (λ copies. record { copies = copies; outcome = Reason options.qos })
-      (sent-held (subscription_of id text options))
-  answer-held shown (Unsubscribe id text) =
-      ap (λ b. reason (if b then 0 else 17))
-      (list_any-SameElements (has_key id (share_of text) (filter_part text)) s.subscriptions
-      (subscriptions_of w) all_shown)
+      grind (arith, sent-held (subscription_of id text options))
+  answer-held shown (Unsubscribe id text) = grind (arith, list_any-SameElements, all_shown)
   answer-held shown (Publish m) =
-      let members : List Subscription = next_members s.access s.sessions s.subscriptions m in
-      ap (λ copies. publish_reply copies
-      (begins_to_wait s.limits.queued s.access s.sessions s.subscriptions m))
-      (ap (λ access. unshared_copies access (connected s.sessions) s.subscriptions m
-      ++ map (member_copy m) members) h.access
-      ∙ ap (λ ss. unshared_copies w.access (connected ss) s.subscriptions m
-      ++ map (member_copy m) members) h.sessions
-      ∙ ap (λ l. l ++ map (member_copy m) members)
-      (unshared_copies-same w.access (connected w.sessions) s.subscriptions (subscriptions_of w) m
-      all_shown)
-      ∙ ap (λ l. unshared_copies w.access (connected w.sessions) (subscriptions_of w) m
-      ++ map (member_copy m) l) (served-held m)
-      ∙ ap (λ l. unshared_copies w.access (connected w.sessions) (subscriptions_of w) m ++ l)
-      (map-map (member_copy m) (λ (r : Row). r.subscription) (served_by w m)))
-      ∙ ap (publish_reply (copies_of w m)) (waits-held m)
+      grind (arith, unshared_copies-same, all_shown, served-held, map-map, waits-held)
   answer-held shown (SetAcl text) = refl
   answer-held shown (Advance seconds) = refl
   answer-held shown Stat = ap (λ outcome. record { copies = []; outcome = outcome }) shown
@@ -279,162 +190,56 @@ module _ (s : State) (w : World) (h : HasRows s w) where
   pub moved-held : IsWorld w → (request : Request)
       → HasRows (change_state s request) (after w request)
   unfolding after
-  moved-held is (Connect id user clean interval) = record {
-    limits = h.limits;
-    rules = h.rules;
-    moment = h.moment;
-    access = h.access;
-    sessions = ap (with_row session_cmp (new_session id user interval)) h.sessions;
-    subscriptions = left_rows id (resumes s.sessions id clean) (resumes w.sessions id clean)
-        (ap (λ ss. resumes ss id clean) h.sessions);
-    retained = h.retained;
-  }
+  moved-held is (Connect id user clean interval) =
+      let rows = left_rows id (resumes s.sessions id clean) (resumes w.sessions id clean)
+      (ap (λ ss. resumes ss id clean) h.sessions) in
+      grind (arith, rows)
   moved-held is (Disconnect id) =
       let P : Bool → Bool → Type 0 = λ a b. HasRows (left_state id a) (gone w id b) in
+      let rows = kept_rows (λ x. not (same_text x.client id)) in
       subst (P (outlives s.sessions id)) (ap (λ ss. outlives ss id) h.sessions)
-      (elim (outlives s.sessions id) as (λ b. P b b) [
-        | true ↦ record {
-          limits = h.limits;
-          rules = h.rules;
-          moment = h.moment;
-          access = h.access;
-          sessions = ap (λ moment. map (left_by moment id) s.sessions) h.moment
-              ∙ ap (map (left_by w.moment id)) h.sessions;
-          subscriptions = h.subscriptions;
-          retained = h.retained;
-        }
-        | false ↦ record {
-          limits = h.limits;
-          rules = h.rules;
-          moment = h.moment;
-          access = h.access;
-          sessions = ap (filter (λ session. not (has_id id session))) h.sessions;
-          subscriptions = kept_rows (λ x. not (same_text x.client id));
-          retained = h.retained;
-        }
-      ])
+      (elim (outlives s.sessions id) as (λ b. P b b)
+      [ true ↦ grind arith | false ↦ grind (arith, rows) ])
   moved-held is (Subscribe id text options) =
       let x : Subscription = subscription_of id text options in
-      record {
-        limits = h.limits;
-        rules = h.rules;
-        moment = h.moment;
-        access = h.access;
-        sessions = h.sessions;
-        subscriptions = same-then _ _ _ (joined-same x s.subscriptions (in_turn w) h.subscriptions)
-            (same-is _ _ (joins x w is));
-        retained = h.retained;
-      }
-  moved-held is (Unsubscribe id text) = record {
-    limits = h.limits;
-    rules = h.rules;
-    moment = h.moment;
-    access = h.access;
-    sessions = h.sessions;
-    subscriptions = kept_rows (λ x. not (has_key id (share_of text) (filter_part text) x));
-    retained = h.retained;
-  }
-  moved-held is (Publish m) = record {
-    limits = h.limits;
-    rules = h.rules;
-    moment = h.moment;
-    access = h.access;
-    sessions = ap (λ (limits : Limits). map
-        (waiting_after limits.queued s.access s.subscriptions s.moment m) s.sessions) h.limits
-        ∙ ap (λ access. map (waiting_after w.limits.queued access s.subscriptions s.moment m)
-        s.sessions) h.access
-        ∙ ap (λ moment. map (waiting_after w.limits.queued w.access s.subscriptions moment m)
-        s.sessions) h.moment
-        ∙ ap (map (waiting_after w.limits.queued w.access s.subscriptions w.moment m)) h.sessions
-        ∙ waiting_after-same w.limits.queued w.access w.sessions s.subscriptions
-        (subscriptions_of w) w.moment m all_shown;
-    subscriptions = same-then _ _ _
-        (all_turned-same (next_members s.access s.sessions s.subscriptions m) s.subscriptions
-        (in_turn w) h.subscriptions)
-        (same-then _ _ _ (same-is _ _ (ap (λ l. all_turned l (in_turn w)) (served-held m)))
-        (serves w is m));
-    retained = ap (λ moment. retained_after moment s.retained m) h.moment
-        ∙ ap (λ retained. retained_after w.moment retained m) h.retained;
-  }
-  moved-held is (SetAcl text) =
-      record {
-        limits = h.limits;
-        rules = h.rules;
-        moment = h.moment;
-        access = ap (λ rules. access_of rules text) h.rules;
-        sessions = h.sessions;
-        subscriptions = h.subscriptions;
-        retained = h.retained;
-      }
-  moved-held is (Advance seconds) = record {
-    limits = h.limits;
-    rules = h.rules;
-    moment = ap (λ moment. moment + seconds) h.moment;
-    access = h.access;
-    sessions = ap (λ moment. filter (λ session. not (has_ended (moment + seconds) session))
-        s.sessions) h.moment
-        ∙ ap (filter (λ session. not (has_ended (w.moment + seconds) session))) h.sessions;
-    subscriptions = same-then _ _ _
-        (same-is _ _ (ap (λ moment. filter (lasts (moment + seconds) s.sessions) s.subscriptions)
-        h.moment
-        ∙ ap (λ ss. filter (lasts (w.moment + seconds) ss) s.subscriptions) h.sessions))
-        (kept_rows (lasts (w.moment + seconds) w.sessions));
-    retained = ap (λ moment. without_expired (moment + seconds) s.retained) h.moment
-        ∙ ap (without_expired (w.moment + seconds)) h.retained;
-  }
-  moved-held is Stat = record {
-    limits = h.limits;
-    rules = h.rules;
-    moment = h.moment;
-    access = h.access;
-    sessions =
-        h.sessions;
-    subscriptions = h.subscriptions;
-    retained = h.retained;
-  }
+      let rows = same-then _ _ _ (joined-same x s.subscriptions (in_turn w) h.subscriptions)
+      (same-is _ _ (joins x w is)) in
+      grind (arith, rows)
+  moved-held is (Unsubscribe id text) =
+      let rows = kept_rows (λ x. not (has_key id (share_of text) (filter_part text) x)) in
+      grind (arith, rows)
+  moved-held is (Publish m) =
+      let rows = same-then _ _ _
+      (all_turned-same (next_members s.access s.sessions s.subscriptions m) s.subscriptions
+      (in_turn w) h.subscriptions)
+      (same-then _ _ _ (same-is _ _ (ap (λ l. all_turned l (in_turn w)) (served-held m)))
+      (serves w is m)) in
+      let waiting = waiting_after-same w.limits.queued w.access w.sessions s.subscriptions
+      (subscriptions_of w) w.moment m all_shown in
+      grind (arith, rows, waiting)
+  moved-held is (SetAcl text) = grind arith
+  moved-held is (Advance seconds) =
+      let rows = same-then _ _ _
+      (same-is _ _ (ap (λ moment. filter (lasts (moment + seconds) s.sessions) s.subscriptions)
+      h.moment
+      ∙ ap (λ ss. filter (lasts (w.moment + seconds) ss) s.subscriptions) h.sessions))
+      (kept_rows (lasts (w.moment + seconds) w.sessions)) in
+      grind (arith, rows)
+  moved-held is Stat = grind arith
 
 -- ## Trees and index
 
 -- a state that holds the rows of the world, and whose trees and index are those of its rows, holds the world
 filed-holds : (s : State) (w : World) → HasRows s w → IsFiled s → Holds s w
 unfolding filters_of
-filed-holds s w h filed = record {
-  limits = h.limits;
-  rules = h.rules;
-  moment = h.moment;
-  access = h.access;
-  sessions = h.sessions;
-  subscriptions = h.subscriptions;
-  retained = h.retained;
-  filter_keys = filed.filter_keys ∙ filters-same s.subscriptions (subscriptions_of w)
-      (λ p. h.subscriptions.elements p ∙ turn_shown w p);
-  topic_keys = filed.topic_keys ∙ ap topics_of h.retained;
-  deadlines = subst (λ (retained : List Retained). Indexes s.deadlines retained) h.retained
-      filed.deadlines;
-}
+filed-holds s w h filed = grind (arith, filters-same, turn_shown)
 
 holds-rows : (s : State) (w : World) → Holds s w → HasRows s w
-holds-rows s w h = record {
-  limits = h.limits;
-  rules = h.rules;
-  moment = h.moment;
-  access = h.access;
-  sessions =
-      h.sessions;
-  subscriptions = h.subscriptions;
-  retained = h.retained;
-}
+holds-rows s w h = grind arith
 
 holds-filed : (s : State) (w : World) → Holds s w → IsFiled s
 unfolding filters_of
-holds-filed s w h = record {
-  filter_keys = h.filter_keys
-      ∙ sym (filters-same s.subscriptions (subscriptions_of w)
-      (λ p. h.subscriptions.elements p ∙ turn_shown w p));
-  topic_keys = h.topic_keys ∙ ap topics_of (sym h.retained);
-  deadlines = subst (λ (retained : List Retained). Indexes s.deadlines retained) (sym h.retained)
-      h.deadlines;
-}
+holds-filed s w h = grind (arith, filters-same, turn_shown)
 
 -- ## Counts
 
@@ -453,32 +258,18 @@ counts-held s w h =
     (length s.subscriptions)) h.retained
     ∙ ap (by (filters_of w) (topics_of w.retained) (length w.retained)) many
 
--- the steps of a subscribe, by what they depend on
-abbrev steps_by : Subscription → Bool → List Retained → ℕ
-steps_by new exists retained =
-    if is_none new.share && (new.options.handling == 0 || (new.options.handling == 1 && not exists))
-    then steps_among new.filter retained
-    else 0
-
 steps-held : (s : State) (w : World) → Holds s w → (request : Request)
     → steps_to s request ≡ steps w request
 unfolding steps
 steps-held s w h (Connect id user clean interval) = refl
 steps-held s w h (Disconnect id) = refl
 steps-held s w h (Subscribe id text options) =
-    let new : Subscription = subscription_of id text options in
-    ap (λ exists. steps_by new exists s.retained)
-    (list_any-SameElements (same_key new) s.subscriptions (subscriptions_of w)
-    (all_shown s w (holds-rows s w h)))
-    ∙ ap (steps_by new (list_any (same_key new) (subscriptions_of w))) h.retained
+    grind (arith, list_any-SameElements, all_shown, holds-rows)
 steps-held s w h (Unsubscribe id text) = refl
 steps-held s w h (Publish m) = ap (λ keys. length (met_by_name (levels m.topic) (prefixes keys)))
     h.filter_keys
 steps-held s w h (SetAcl text) = refl
-steps-held s w h (Advance seconds) =
-    ap (λ moment. length (filter (is_due (moment + seconds)) s.retained)) h.moment
-    ∙ ap (λ (retained : List Retained). length (filter (is_due (w.moment + seconds)) retained))
-    h.retained
+steps-held s w h (Advance seconds) = grind arith
 steps-held s w h Stat = refl
 
 -- ## Each world that the router stands for
@@ -511,11 +302,7 @@ done-answers old request reply new d w h =
 refused-refuses : (old : State) (request : Request) (r : Refusal) → Refuses (world_of old) request r
     → (w : World) → StandsFor old w → Refuses w request r
 unfolding StandsFor
-refused-refuses old request r why w h =
-    elim why as (λ _. Refuses w request r) [
-      | inl memory ↦ inl memory
-      | inr refused ↦ inr (sym (refusal-held old w (holds-rows old w h.0) request) ∙ refused)
-    ]
+refused-refuses old request r why w h = grind (arith, refusal-held, holds-rows)
 
 -- a request that is applied to the state is answered for each world it stands for
 pub applied_answers : (old : State) (shown request : Request) (result : Result Answer Refusal)
@@ -534,13 +321,7 @@ pub applied_counts : (old : State) (shown request : Request) (result : Result An
     (before now : ℕ) → shown ≡ request → CountsSteps old shown result before now
     → CountsFor old request result before now
 unfolding StandsFor
-applied_counts old shown request result before now is done =
-    subst (λ r. CountsFor old r result before now) is (each result done)
-  where
-    each : (result : Result Answer Refusal) → CountsSteps old shown result before now
-        → CountsFor old shown result before now
-    each (Ok a) adds = λ w h. adds ∙ ap (λ n. before + n) (steps-held old w h.0 shown)
-    each (Err r) adds = λ w h. adds
+applied_counts old shown request result before now is done = grind (arith, shown, steps-held)
 
 -- a request that takes no steps leaves their number as it was
 pub none_counted : (old : State) (shown request : Request) (result : Result Answer Refusal) (n : ℕ)

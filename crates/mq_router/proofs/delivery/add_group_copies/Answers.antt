@@ -1,4 +1,4 @@
-use Rattle.std.proofs.Common.{◌≡◌, ◌∙◌, ◌++◌, ◌∷◌, [], append_assoc, ap, map, take, sym}
+use Rattle.std.proofs.Common.{◌∙◌, ◌++◌, ◌∷◌, [], append_assoc, ap, map, take, sym, arith}
 use Rattle.std.proofs.lemmas.List.{map_more, map_push, take_all}
 use Rattle.mq_world.specs.Views.{copy_of, message_of}
 use Rattle.mq_subscriptions.specs.Turns.{turn_of}
@@ -24,9 +24,4 @@ loop-turn-preserved c =
     (sym (map_more (λ t. member_copy m (turn_of t)) served i item c.loop-turn-test.true))
 
 pub returns : goal.returns
-returns c =
-    let m = message_of c.args.outgoing.now.message in
-    c.loop-turn.invariant
-    ∙ ap (λ served. map copy_of c.args.copies.now.items
-    ++ map (λ t. member_copy m (turn_of t)) served)
-    (take_all c.loop-turn.turn-index c.args.served.now c.loop-turn-test.false)
+returns c = grind (arith, take_all)

@@ -1,7 +1,6 @@
 use Rattle.std.proofs.Common.{◌≡◌, ◌++◌, map, take}
 use Rattle.mq_router.specs.router.Effects.{member_copy}
-use Rattle.mq_world.specs.Views.{copy_of}
-use Rattle.mq_world.specs.Views.{message_of}
+use Rattle.mq_world.specs.Views.{copy_of, message_of}
 use Rattle.mq_subscriptions.specs.Turns.{turn_of}
 use Rattle.mq_router.proofs.delivery.add_group_copies.Given as goal
 

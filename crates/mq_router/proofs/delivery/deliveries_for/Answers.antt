@@ -1,10 +1,9 @@
-use Rattle.std.proofs.Common.{◌∙◌, ◌++◌, sym, ap, map, List}
+use Rattle.std.proofs.Common.{◌∙◌, ◌++◌, sym, ap, map, List, arith}
 use Rattle.std.proofs.lemmas.Simd.{map-map}
 use Rattle.mq_world.specs.World.{Message, Copy}
 use Rattle.mq_router.specs.router.Effects.{member_copy}
-use Rattle.mq_router.specs.delivery.Copies.{copies_by, queue_items_by}
+use Rattle.mq_router.specs.delivery.Copies.{copies_by, by_client}
 use Rattle.mq_subscriptions.specs.Matches.{match_views}
-use Rattle.mq_router.specs.delivery.Copies.{by_client}
 use Rattle.mq_world.specs.Views.{message_of}
 use Rattle.mq_subscriptions.specs.Turns.{turn_of}
 use Rattle.mq_router.proofs.delivery.deliveries_for.Goals as goal
@@ -24,8 +23,4 @@ returns-clause-copies c =
     ∙ ap (λ l. own m ++ l) (sym (map-map (member_copy m) turn_of c.args.served.items))
 
 pub returns-clause-queued : goal.returns-clause-queued
-returns-clause-queued c =
-    c.in_ok-copies.ensures.queued
-    ∙ ap (λ o. queue_items_by c.args.limit c.args.view.now.access.now
-    c.args.view.now.sessions.now (message_of o) o.deadline
-    (by_client (match_views c.args.matches.now))) c.in_ok-outgoing.ensures
+returns-clause-queued c = grind arith

@@ -1,20 +1,15 @@
-use Rattle.std.proofs.Common.{◌≡◌, ◌∙◌, ◌++◌, [], sym, ap, subst, map, List}
-use Rattle.std.specs.List.{filter}
+use Rattle.std.proofs.Common.{◌∙◌, ◌++◌, sym, ap, subst, map, List, arith}
 use Rattle.std.proofs.lemmas.Result.{IfOk-weaker}
 use Rattle.mq_world.specs.World.{Subscription}
 use Rattle.mq_world.specs.Sessions.{connected}
-use Rattle.mq_subscriptions.specs.Turns.{next_members}
+use Rattle.mq_subscriptions.specs.Turns.{next_members, turns_in}
 use Rattle.mq_router.specs.router.Effects.{member_copy}
-use Rattle.mq_world.specs.Copies.{filter_matches, unshared_copies}
-use Rattle.mq_subscriptions.specs.Matches.{rows_found}
-use Rattle.mq_router.specs.delivery.Copies.{gives_options}
+use Rattle.mq_world.specs.Copies.{unshared_copies}
+use Rattle.mq_subscriptions.specs.Matches.{rows_found, match_views, options_among, AreByClient}
+use Rattle.mq_router.specs.delivery.Copies.{gives_options, by_client}
 use Rattle.mq_router.specs.delivery.Summaries.{summary_for}
 use Rattle.mq_world.specs.Views.{message_of}
-use Rattle.mq_sessions.specs.Views.{queue_item_of}
 use Rattle.mq_subscriptions.specs.Filters.{AreEntriesFor}
-use Rattle.mq_subscriptions.specs.Turns.{turns_in}
-use Rattle.mq_subscriptions.specs.Matches.{match_views, options_among, AreByClient}
-use Rattle.mq_router.specs.delivery.Copies.{by_client}
 use Rattle.mq_router.proofs.ClientLemmas.{sorted-by_client, lookup-by_client, options-unshared}
 use Rattle.mq_router.proofs.UnsharedCopies.{unshared-gathered, unshared-queued, options-matching}
 use Rattle.mq_router.proofs.GroupLemmas.{members-matching}
@@ -32,45 +27,13 @@ deliveries_for-requires c =
     c.in_ok-matches.ensures.sorted
 
 pub returns-then-is_empty-clause-served : goal.returns-then-is_empty-clause-served
-returns-then-is_empty-clause-served c =
-    let m = message_of c.args.message.now in
-    let subs = c.args.subscriptions.now.rows in
-    let none : filter (λ s. filter_matches s.filter m.topic) subs ≡ [] =
-    sym c.in_ok-candidates.ensures.rows
-    ∙ ap (λ l. rows_found (map (λ a. a.now) l))
-    (sym c.as_slice-found.ensures.value
-    ∙ empty-is c.as_slice-found.result.now (sym c.is_empty.ensures ∙ c.if-is_empty.true)) in
-    c.nothing.ensures.served
-    ∙ sym (no-members c.args.view.now.access.now c.args.view.now.sessions.now subs m none)
+returns-then-is_empty-clause-served c = grind (arith, empty-is, no-members)
 
 pub returns-then-is_empty-clause-queued : goal.returns-then-is_empty-clause-queued
-returns-then-is_empty-clause-queued c =
-    let m = message_of c.args.message.now in
-    let subs = c.args.subscriptions.now.rows in
-    let none : filter (λ s. filter_matches s.filter m.topic) subs ≡ [] =
-    sym c.in_ok-candidates.ensures.rows
-    ∙ ap (λ l. rows_found (map (λ a. a.now) l))
-    (sym c.as_slice-found.ensures.value
-    ∙ empty-is c.as_slice-found.result.now (sym c.is_empty.ensures ∙ c.if-is_empty.true)) in
-    ap (map queue_item_of) c.nothing.ensures.queued
-    ∙ sym (no-queued c.args.view.now.access.now c.args.view.now.sessions.now subs m none
-    c.args.limit c.args.message.now.deadline)
+returns-then-is_empty-clause-queued c = grind (arith, empty-is, no-queued)
 
 pub returns-then-is_empty-clause-copies : goal.returns-then-is_empty-clause-copies
-returns-then-is_empty-clause-copies c =
-    let m = message_of c.args.message.now in
-    let A = c.args.view.now.access.now in
-    let S = c.args.view.now.sessions.now in
-    let subs = c.args.subscriptions.now.rows in
-    let none : filter (λ s. filter_matches s.filter m.topic) subs ≡ [] =
-    sym c.in_ok-candidates.ensures.rows
-    ∙ ap (λ l. rows_found (map (λ a. a.now) l))
-    (sym c.as_slice-found.ensures.value
-    ∙ empty-is c.as_slice-found.result.now (sym c.is_empty.ensures ∙ c.if-is_empty.true)) in
-    c.nothing.ensures.copies
-    ∙ sym (ap (λ l. l ++ map (member_copy m) (next_members A S subs m))
-    (no-copies A (connected S) subs m none)
-    ∙ ap (map (member_copy m)) (no-members A S subs m none))
+returns-then-is_empty-clause-copies c = grind (arith, empty-is, no-copies, no-members)
 
 pub returns-clause-served : goal.returns-clause-served
 returns-clause-served c =

@@ -4,7 +4,7 @@ use Rattle.std.proofs.lemmas.List.{map_more, take_all}
 use Rattle.mq_world.specs.Views.{message_of}
 use Rattle.mq_world.specs.World.{Message}
 use Rattle.mq_subscriptions.specs.Filters.{Entry}
-use Rattle.mq_subscriptions.specs.Matches.{rows_found, unshared_matches, options_among}
+use Rattle.mq_subscriptions.specs.Matches.{rows_found, unshared_matches}
 use Rattle.mq_router.proofs.delivery.matches_by_client.Goals as goal
 
 one-more : (m : Message) (found : List Entry) (a : Entry)
@@ -30,9 +30,4 @@ pub returns-clause-sorted : goal.returns-clause-sorted
 returns-clause-sorted c = c.in_ok-sort_by_client.ensures.sorted
 
 pub returns-clause-options : goal.returns-clause-options
-returns-clause-options c = λ id.
-    let m = message_of c.args.message.now in
-    c.in_ok-sort_by_client.ensures.stable id
-    ∙ ap (options_among id) (c.loop-at.invariant
-    ∙ ap (λ found. unshared_matches m (rows_found (map (λ a. a.now) found)))
-    (take_all c.loop-at.at-index c.args.found.now c.loop-at-test.false))
+returns-clause-options c = grind (arith, take_all)

@@ -1,14 +1,12 @@
-use Rattle.std.proofs.Common.{rules, ◌≡◌, ◌∙◌, ◌++◌, [], ap, map, get_or, subst, sym}
+use Rattle.std.proofs.Common.{rules, ◌∙◌, ◌++◌, ap, map, get_or, arith}
 use Rattle.std.specs.Rc.{rc_str_bytes}
 use Rattle.std.proofs.lemmas.List.Sorted.{answers_always}
-use Rattle.mq_world.specs.Views.{copy_of, options_of}
+use Rattle.mq_world.specs.Views.{copy_of, options_of, message_of}
 use Rattle.mq_world.specs.Lists.{Text}
-use Rattle.mq_world.specs.Views.{message_of}
 use Rattle.mq_sessions.specs.Views.{queue_item_of}
-use Rattle.mq_router.specs.delivery.Copies.{copies_by, queue_items_by}
+use Rattle.mq_router.specs.delivery.Copies.{copies_by, queue_items_by, by_client}
 use Rattle.mq_router.specs.delivery.Summaries.{Summary, summary_of}
-use Rattle.mq_subscriptions.specs.Matches.{match_views, AreByClient}
-use Rattle.mq_router.specs.delivery.Copies.{by_client}
+use Rattle.mq_subscriptions.specs.Matches.{match_views}
 use Rattle.std.specs.Slice.Iter.{chunk_by_rest}
 use Rattle.mq_router.proofs.ClientLemmas.{next-client, copies-first, begins-first}
 use Rattle.mq_router.proofs.delivery.unshared.unshared_copies.Goals as goal
@@ -45,23 +43,4 @@ loop-chunk-preserved c =
     }
 
 pub loop-chunk-init : goal.loop-chunk-init
-loop-chunk-init c =
-    let m = message_of c.args.outgoing.now.message in
-    let deadline = c.args.outgoing.now.message.deadline in
-    let A = c.args.view.now.access.now in
-    let S = c.args.view.now.sessions.now in
-    let rest : chunk_by_rest c.into_iter-chunk-iterator.result ≡ c.args.matches.now =
-    ap chunk_by_rest c.into_iter-chunk-iterator.ensures.into_iter_gives
-    ∙ c.chunk_by-chunk-items.ensures.rest in
-    let left = by_client (match_views (chunk_by_rest c.into_iter-chunk-iterator.result)) in
-    let no_copies : c.in_ok-with_capacity.field-0.items ≡ [] = search rules in
-    let none_queued : c.new.result.items ≡ [] = search rules in
-    record {
-      sorted = subst (λ ms. AreByClient (match_views ms)) (sym rest) c.requires;
-      copies = ap (λ l. map copy_of l ++ copies_by A S m left) no_copies
-          ∙ ap (λ ms. copies_by A S m (by_client (match_views ms))) rest;
-      queued = ap (λ l. map queue_item_of l ++ queue_items_by c.args.limit A S m deadline left)
-          none_queued
-          ∙ ap (λ ms. queue_items_by c.args.limit A S m deadline (by_client (match_views ms))) rest;
-      known = tt;
-    }
+loop-chunk-init c = grind arith

@@ -1,11 +1,9 @@
 use Rattle.std.proofs.Common.{◌≡◌, ◌++◌, map}
 use Rattle.std.specs.Slice.Iter.{chunk_by_rest}
-use Rattle.mq_world.specs.Views.{copy_of}
-use Rattle.mq_world.specs.Views.{message_of}
+use Rattle.mq_world.specs.Views.{copy_of, message_of}
 use Rattle.mq_sessions.specs.Views.{queue_item_of}
-use Rattle.mq_router.specs.delivery.Copies.{copies_by, queue_items_by}
+use Rattle.mq_router.specs.delivery.Copies.{copies_by, queue_items_by, by_client}
 use Rattle.mq_subscriptions.specs.Matches.{match_views, AreByClient}
-use Rattle.mq_router.specs.delivery.Copies.{by_client}
 use Rattle.mq_router.specs.delivery.Known.{IsKnown}
 use Rattle.mq_router.proofs.delivery.unshared.unshared_copies.Given as goal
 

@@ -1,8 +1,7 @@
-use Rattle.std.proofs.Common.{◌≡◌, ◌∙◌, sym, ap, subst, map, false}
+use Rattle.std.proofs.Common.{◌≡◌, ◌∙◌, sym, ap, subst, map, false, arith}
 use Rattle.std.specs.Option.{option_map, option_copied}
 use Rattle.mq_world.specs.World.{Connect}
 use Rattle.mq_world.specs.Sessions.{resumes}
-use Rattle.mq_sessions.specs.Near.{AllReached}
 use Rattle.mq_world.specs.Views.{copy_of, reply_of}
 use Rattle.mq_router.specs.router.Views.{state_of}
 use Rattle.mq_router.specs.StandsFor.{State}
@@ -21,24 +20,13 @@ returns-then-not-is_client_id-clause-applied c =
     (sym c.is_client_id.ensures ∙ c.if-not-is_client_id.true)
 
 pub returns-then-not-is_user_name-clause-applied : goal.returns-then-not-is_user_name-clause-applied
-returns-then-not-is_user_name-clause-applied c =
-    connect-user c.args.self.now c.args.client.now _ _ _
-    (sym c.is_client_id.ensures ∙ c.if-not-is_client_id.false)
-    (sym c.is_user_name.ensures ∙ c.if-not-is_user_name.true)
+returns-then-not-is_user_name-clause-applied c = grind (arith, connect-user)
 
 pub invariant_of-self-in-Some-1 : goal.invariant_of-self-in-Some-1
-invariant_of-self-in-Some-1 c = (
-  c.self.invariant.0,
-  subst (AllReached c.self.inside.clock.moment) (sym c.in_ok-resumed.ensures.ok)
-      (reached-with_row c.self.inside.clock.moment _ c.self.inside.sessions tt c.self.invariant.1),
-)
+invariant_of-self-in-Some-1 c = grind (arith, reached-with_row)
 
 pub invariant_of-self-in_default : goal.invariant_of-self-in_default
-invariant_of-self-in_default c = (
-  c.self.invariant.0,
-  subst (AllReached c.self.inside.clock.moment) (sym c.in_ok-resumed.ensures.ok)
-      (reached-with_row c.self.inside.clock.moment _ c.self.inside.sessions tt c.self.invariant.1),
-)
+invariant_of-self-in_default c = grind (arith, reached-with_row)
 
 pub returns-in_default-clause-applied : goal.returns-in_default-clause-applied
 returns-in_default-clause-applied c =
@@ -72,25 +60,4 @@ returns-in_default-clause-applied c =
 
 pub returns-clause-applied : goal.returns-clause-applied
 returns-clause-applied c =
-    let s : State = state_of c.self.inside in
-    let id = c.args.client.now in
-    let user = option_copied c.args.user in
-    let interval = c.args.session_expiry in
-    let new : State = record s { sessions = c.start_session.new.sessions } in
-    let stays = resumes-some s.moment s.sessions id c.args.clean
-    (map copy_of c.in-Some.copies.items)
-    (ap (option_map (λ list. map copy_of list.items)) (sym c.in-Some.is)
-    ∙ c.in_ok-resumed.ensures.resumed) in
-    subst (λ (v : State). Does v (Connect id user c.args.clean interval)
-    (record { copies = map copy_of c.in-Some.copies.items; outcome = Reason 0 }) new)
-    c.self.view_is
-    (connect-does s id user c.args.clean interval c.start_session.new.sessions c.self.inside.subscriptions _
-    (record {
-      accepted = connect-accepted s id user c.args.clean interval
-          (sym c.is_client_id.ensures ∙ c.if-not-is_client_id.false)
-          (sym c.is_user_name.ensures ∙ c.if-not-is_user_name.false);
-      reply_is = ap (λ l. record { copies = l; outcome = Reason 0 }) stays.1;
-    }) c.in_ok-resumed.ensures.ok (record {
-      same = same-is _ _ (ap (connect_rows s id) (sym stays.0));
-      keys = λ keys. keys;
-    }))
+    grind (arith, resumes-some, connect-does, connect-accepted, same-is, connect_rows)

@@ -1,12 +1,10 @@
-use Rattle.std.proofs.Common.{◌∙◌, sym, ap, map, refl, string_bytes, Option, None}
-use Rattle.std.proofs.lemmas.Result.{IfOk-weaker}
+use Rattle.std.proofs.Common.{◌∙◌, sym, ap, map, string_bytes, arith}
 use Rattle.std.specs.Option.{option_map}
 use Rattle.std.specs.Rc.{rc_str_bytes}
 use Rattle.mq_world.specs.Lists.{Text}
 use Rattle.mq_world.specs.World.{Subscription}
 use Rattle.mq_router.specs.StandsFor.{State}
-use Rattle.mq_world.specs.Sessions.{user_of}
-use Rattle.mq_world.specs.Retained.{asks_for_retained, retained_copies}
+use Rattle.mq_world.specs.Retained.{asks_for_retained}
 use Rattle.mq_router.specs.router.Effects.{copies_sent}
 use Rattle.mq_subscriptions.specs.Filters.{row}
 use Rattle.mq_world.specs.Views.{copy_of}
@@ -29,20 +27,4 @@ returns-then-not-asks_for_retained-clause-copies c =
     ∙ ap (λ (v : State). copies_sent v new) c.self.view_is
 
 pub returns-clause-copies : goal.returns-clause-copies
-returns-clause-copies c =
-    let s : State = state_of c.self.inside in
-    let by : Option Text → Text → Subscription =
-    λ share client. row share c.args.sub_filter.now.filter (client, c.args.options) in
-    let share : Option Text = option_map string_bytes c.args.sub_filter.now.share in
-    let id : Text = rc_str_bytes c.args.client.now in
-    let new : Subscription = by share id in
-    let asks = c.asks_for_retained.ensures
-    ∙ ap (λ client. asks_for_retained s.subscriptions (by share client)) c.as_str.ensures.value
-    in
-    IfOk-weaker c.copies.result _ _
-    (λ copies e. e
-    ∙ ap (λ user. retained_copies s.moment s.access user s.retained (by None id))
-    (c.user.ensures ∙ ap (user_of s.sessions) c.as_str-2.ensures.value)
-    ∙ sym (sent-some s new (by None id) refl (sym asks ∙ c.if-not-asks_for_retained.false))
-    ∙ ap (λ (v : State). copies_sent v new) c.self.view_is)
-    c.copies.ensures.copies
+returns-clause-copies c = grind (arith, sent-some)

@@ -1,6 +1,6 @@
 use Rattle.std.proofs.Common.{rules, ◌≡◌, ◌∙◌, ◌==◌, ◌<◌, ◌+◌, ◌^◌, ℕ, sym, ap, subst, map, not}
 use Rattle.std.proofs.Common.{length, Option, List}
-use Rattle.mq_subscriptions.specs.Turns.{turn_of}
+use Rattle.mq_subscriptions.specs.Turns.{turn_of, all_turned}
 use Rattle.mq_sessions.specs.Views.{queue_item_of}
 use Rattle.mq_router.specs.router.Views.{state_of}
 use Rattle.mq_world.specs.World.{Publish, Message, Subscription}
@@ -14,7 +14,6 @@ use Rattle.std.specs.Option.{IfSome}
 use Rattle.mq_world.specs.Answers.{publish_reply}
 use Rattle.mq_router.specs.StandsFor.{State}
 use Rattle.mq_router.specs.router.Effects.{Does, world_of, copies_now, queued_now, members_now}
-use Rattle.mq_subscriptions.specs.Turns.{all_turned}
 use Rattle.mq_world.specs.Views.{reply_of, message_of}
 use Rattle.mq_subscriptions.proofs.InTurn.{same-is, same-then}
 use Rattle.mq_router.proofs.RouterLemmas.{publish-does}

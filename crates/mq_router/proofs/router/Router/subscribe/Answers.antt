@@ -1,27 +1,23 @@
-use Rattle.std.proofs.Common.{◌≡◌, ◌∙◌, ◌+◌, ℕ, sym, ap, subst, map, Option, Err, string_bytes}
+use Rattle.std.proofs.Common.{◌≡◌, ◌∙◌, sym, ap, subst, map, Option, string_bytes, arith}
 use Rattle.std.proofs.lemmas.Result.{err_from_is_err_and}
 use Rattle.std.specs.Option.{option_map}
 use Rattle.mq_topic.specs.Texts.{share_of}
 use Rattle.mq_world.specs.Lists.{Text}
 use Rattle.mq_world.specs.World.{Subscribe, Subscription, SubscriptionOptions, subscription_of}
 use Rattle.mq_world.specs.Refusals.{refusal}
-use Rattle.mq_world.specs.Views.{copy_of}
-use Rattle.mq_world.specs.Views.{options_of}
+use Rattle.mq_world.specs.Views.{copy_of, options_of}
 use Rattle.mq_world.specs.declared.answer.Outcome.TheVariants.{Reason}
 use Rattle.mq_subscriptions.specs.SubFilters.{sub_filter_row}
 use Rattle.mq_subscriptions.specs.Turns.{upsert}
 use Rattle.mq_subscriptions.proofs.InTurn.{same-is, same-then}
 use Rattle.mq_router.specs.StandsFor.{State}
-use Rattle.mq_router.specs.router.Effects.{Does, world_of, copies_sent, steps_sent}
+use Rattle.mq_router.specs.router.Effects.{Does, world_of, copies_sent}
 use Rattle.mq_router.specs.router.Views.{state_of}
 use Rattle.mq_router.proofs.RouterLemmas.{refused-applied, subscribe-does}
 use Rattle.mq_router.proofs.router.Router.subscribe.Goals as goal
 
 pub returns-in_err-id-clause-applied : goal.returns-in_err-id-clause-applied
-returns-in_err-id-clause-applied c =
-    let p = err_from_is_err_and c.from_residual.result c.from_residual.ensures.1 in
-    refused-applied c.args.self.now _ c.from_residual.result c.in_err-id.field-0.0
-    c.args.self.now (p.1 ∙ ap (λ e. Err e) p.2) c.in_err-id.ensures.err
+returns-in_err-id-clause-applied c = grind (arith, err_from_is_err_and, refused-applied)
 
 pub returns-clause-applied : goal.returns-clause-applied
 returns-clause-applied c =
@@ -66,16 +62,4 @@ returns-clause-applied c =
     }))
 
 pub returns-clause-counted : goal.returns-clause-counted
-returns-clause-counted c =
-    let asked = c.in_ok-id.ensures.ok in
-    let steps : Subscription → ℕ = λ x. c.args.steps.now + steps_sent c.args.self.now x in
-    let named : Option Text → Text → Subscription = λ sh f. record {
-      client = c.args.client.now;
-      share = sh;
-      filter = f;
-      options = options_of c.args.options;
-    } in
-    c.in_ok-copies.ensures.count
-    ∙ ap (λ k. steps (sub_filter_row k c.in_ok-id.sub_filter c.args.options)) asked.0
-    ∙ ap (λ sh. steps (named sh c.in_ok-id.sub_filter.filter)) asked.1.0
-    ∙ ap (λ f. steps (named (share_of c.args.text.now) f)) asked.1.1
+returns-clause-counted c = grind arith

@@ -1,12 +1,10 @@
-use Rattle.std.proofs.Common.{◌≡◌, ◌∙◌, sym, ap, subst, refl, inr, Err, None, if◌then◌else◌}
-use Rattle.std.proofs.Common.{◌≢◌}
-use Rattle.std.specs.Result.{IfErr}
+use Rattle.std.proofs.Common.{◌≡◌, ◌∙◌, sym, ap, subst, refl, inr, None, if◌then◌else◌, arith}
 use Rattle.std.proofs.lemmas.Result.{err_from_is_err_and}
 use Rattle.mq_world.specs.World.{Unsubscribe}
 use Rattle.mq_world.specs.Refusals.{first_refusal, client_conditions}
 use Rattle.mq_world.specs.Answers.{reason}
 use Rattle.mq_world.specs.Views.{reply_of}
-use Rattle.mq_world.specs.declared.refusal.Refusal.TheVariants.{Memory, TopicFilter}
+use Rattle.mq_world.specs.declared.refusal.Refusal.TheVariants.{TopicFilter}
 use Rattle.mq_router.specs.router.Effects.{Does}
 use Rattle.mq_router.specs.router.Views.{state_of}
 use Rattle.mq_router.specs.StandsFor.{State}
@@ -18,11 +16,7 @@ use Rattle.mq_router.proofs.router.Router.unsubscribe.Goals as goal
 
 pub returns-in_err-check_client-clause-applied : goal.returns-in_err-check_client-clause-applied
 returns-in_err-check_client-clause-applied c =
-    let p = err_from_is_err_and c.from_residual.result c.from_residual.ensures.1 in
-    refused-applied c.args.self.now _ c.from_residual.result c.in_err-check_client.field-0.0
-    c.args.self.now (p.1 ∙ ap (λ e. Err e) p.2)
-    (unsubscribe-client c.args.self.now c.args.client.now c.args.text.now _
-    c.in_err-check_client.ensures.refused)
+    grind (arith, err_from_is_err_and, refused-applied, unsubscribe-client)
 
 pub returns-then-not-is_valid-clause-applied : goal.returns-then-not-is_valid-clause-applied
 returns-then-not-is_valid-clause-applied c =
@@ -55,8 +49,4 @@ returns-clause-applied c =
     }))
 
 pub returns-in_err-check_client-clause-no_memory : goal.returns-in_err-check_client-clause-no_memory
-returns-in_err-check_client-clause-no_memory c =
-    let p = err_from_is_err_and c.from_residual.result c.from_residual.ensures.1 in
-    subst (λ r. IfErr r (λ e. e ≢ Memory)) (sym (p.1 ∙ ap (λ e. Err e) p.2))
-    (client-memory c.args.self.now.sessions c.args.client.now c.in_err-check_client.field-0.0
-    c.in_err-check_client.ensures.refused)
+returns-in_err-check_client-clause-no_memory c = grind (arith, err_from_is_err_and, client-memory)

@@ -1,4 +1,4 @@
-use Rattle.std.proofs.Common.{◌∙◌, not, List, length, sym, ap, subst, ◌<◌}
+use Rattle.std.proofs.Common.{◌∙◌, not, List, length, sym, ap, subst, ◌<◌, arith}
 use Rattle.std.specs.List.{filter}
 use Rattle.std.specs.Rc.{rc_str_bytes}
 use Rattle.mq_world.specs.World.{Session, has_id}
@@ -39,7 +39,4 @@ returns-clause-sessions c =
     ∙ c.loop-id.invariant.sessions
 
 pub returns-clause-rows : goal.returns-clause-rows
-returns-clause-rows c =
-    sym (all-last c.args.moment c.loop-id.sessions c.loop-id.subscriptions.rows
-    c.in_default.ensures.none)
-    ∙ c.loop-id.invariant.rows
+returns-clause-rows c = grind (arith, all-last)
