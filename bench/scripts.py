@@ -10,6 +10,9 @@ colleagues CLIENTS PUBLISHES FIRST  publishes to CLIENTS subscribers of the user
                               its lines from FIRST on grant
 users PUBLISHES               publishes to 5 subscribers for the access list that `userlist` writes
 userlist USERS                an access list of ten lines each for USERS users
+mixed CLIENTS USERS PUBLISHES publishes to CLIENTS subscribers of USERS users in turn
+longlist USERS LINES          an access list of LINES lines each for USERS users, of which the last
+                              grants these publishes
 others OTHERS PUBLISHES       publishes to 5 subscribers beside OTHERS subscriptions that
                               don't match
 overlapping PUBLISHES         publishes to 5 subscribers, each by three filters with identifiers
@@ -98,6 +101,23 @@ def users(publishes):
     for i in range(publishes):
         line(do="publish", client="client-0", topic=f"site/{i % 100}/temperature", payload=f"v={i}",
              qos=1)
+
+
+def mixed(clients, users, publishes):
+    line(do="connect", client="sensor", user="user-0")
+    for i in range(clients):
+        line(do="connect", client=f"client-{i}", user=f"user-{i % users}")
+        line(do="subscribe", client=f"client-{i}", filter="site/#")
+    for i in range(publishes):
+        line(do="publish", client="sensor", topic="site/1/state")
+
+
+def long_list(users, lines):
+    for user in range(users):
+        write(f"user user-{user}\n")
+        for i in range(lines - 1):
+            write(f"topic readwrite area/{i}/+\n")
+        write("topic readwrite site/#\n")
 
 
 def user_list(users):
@@ -240,8 +260,8 @@ def resuming(away, resumes):
 
 kinds = {"colleagues": colleagues, "overlapping": overlapping, "lasting": lasting,
          "sessions": sessions, "resuming": resuming, "five": five, "big": big, "users": users,
-         "userlist": user_list, "rules": rules, "list": access_list, "others": others,
-         "groups": groups, "leaving": leaving, "retained": retained, "expiring": expiring,
-         "returning": returning, "refused": refused, "receivers": receivers, "members": members,
-         "all": all_retained}
+         "userlist": user_list, "mixed": mixed, "longlist": long_list, "rules": rules,
+         "list": access_list, "others": others, "groups": groups, "leaving": leaving,
+         "retained": retained, "expiring": expiring, "returning": returning, "refused": refused,
+         "receivers": receivers, "members": members, "all": all_retained}
 kinds[sys.argv[1]](*(int(n) for n in sys.argv[2:]))

@@ -13,3 +13,4 @@ pub mod Fresh
 pub mod RouterLemmas
 pub mod CopyLemmas
 pub mod EndedLemmas
+pub mod FoundLemmas

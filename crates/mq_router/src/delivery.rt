@@ -13,6 +13,7 @@ ghost use Rattle.mq_subscriptions.specs.Matches.{AreByClient, rows_found, unshar
 ghost use Rattle.mq_router.specs.router.Effects.{message_copies, member_copy};
 
 pub(crate) mod access_view;
+pub(crate) mod fates;
 pub(crate) mod outgoing;
 pub(crate) mod summary;
 pub(crate) mod unshared;

@@ -16,6 +16,7 @@ ghost use Rattle.mq_sessions.specs.Queue.{queue_item};
 ghost use Rattle.mq_sessions.specs.Views.{queue_item_of};
 
 use crate::delivery::access_view::AccessView;
+use crate::delivery::fates::Fates;
 use crate::delivery::outgoing::Outgoing;
 use crate::delivery::summary::Summary;
 use mq_sessions::{Fate, QueuedCopy, queued_copy};
@@ -55,10 +56,10 @@ pub(crate) fn unshared_copies(
         copies: Vec::with_capacity(alloc, most)?,
         queued: Vec::new(alloc),
     };
-    let mut known = None;
+    let mut fates = Fates::new(alloc, view, outgoing.message.topic);
     for chunk in matches.chunk_by(|a, b| a.client == b.client) {
         let client = chunk[0].client;
-        let fate = view.fate(client, outgoing.message.topic, limit, &mut known);
+        let fate = fates.fate(client, limit);
         made.add(alloc, fate, client, chunk, outgoing)?;
     }
     Ok(made)

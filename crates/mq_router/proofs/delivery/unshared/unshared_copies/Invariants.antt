@@ -4,7 +4,7 @@ use Rattle.mq_world.specs.Views.{copy_of, message_of}
 use Rattle.mq_sessions.specs.Views.{queue_item_of}
 use Rattle.mq_router.specs.delivery.Copies.{copies_by, queue_items_by, by_client}
 use Rattle.mq_subscriptions.specs.Matches.{match_views, AreByClient}
-use Rattle.mq_router.specs.delivery.Known.{IsKnown}
+use Rattle.mq_router.specs.delivery.Fates.{receivers}
 use Rattle.mq_router.proofs.delivery.unshared.unshared_copies.Given as goal
 
 abbrev pub invariant-loop-chunk : goal.invariant-loop-chunk
@@ -20,5 +20,6 @@ invariant-loop-chunk l = record {
       ≡ queue_items_by l.limit l.view.access.now l.view.sessions.now
       (message_of l.outgoing.message) l.outgoing.message.deadline
       (by_client (match_views l.fn.matches));
-  known : IsKnown l.view.access.now l.outgoing.message.topic.now l.known;
+  fates : l.fates ≡ receivers l.view.access.now l.view.sessions.now
+      l.outgoing.message.topic.now;
 }

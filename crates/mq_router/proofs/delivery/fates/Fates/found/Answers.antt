@@ -1,0 +1,5 @@
+use Rattle.std.proofs.Common.{arith}
+use Rattle.mq_router.proofs.delivery.fates.Fates.found.Goals as goal
+
+pub returns : goal.returns
+returns c = grind (arith, c.self.invariant.of_users c.args.user)
