@@ -1,5 +1,5 @@
 -- Items by whom they are for.
-use Rattle.std.proofs.Common.{◌≡◌, ℕ, Bool, true, false, ◌&&◌, ◌||◌, if◌then◌else◌, List, []}
+use Rattle.std.proofs.Common.{◌≡◌, ℕ, Bool, true, false, not, ◌&&◌, ◌||◌, if◌then◌else◌, List, []}
 use Rattle.std.proofs.Common.{◌∷◌, Option, Some, None, refl, ap, sym, ◌∙◌}
 use Rattle.std.specs.List.{filter, list_any}
 use Rattle.mq_acl.specs.Access.{applies}
@@ -68,3 +68,27 @@ pub any_by_owner : {X : Type 0} (who : X → Who) (test : X → Bool) (user : Op
 any_by_owner who test user all by_owner grouped =
     (λ i. list_any test (grouped.everyone i) || list_any test (grouped.own user i))
     ∙ any_of_groups who user test all
+
+-- where it is tried of the items for all clients, of those that pass another test and of the rest
+pub any_for_all : {X : Type 0} (who : X → Who) (test keep : X → Bool) (all : List X)
+    (kept rest : ByOwner X) → IsGrouped who (filter keep all) kept
+    → IsGrouped who (filter (λ x. not (keep x)) all) rest
+    → (list_any test (everyones kept) || list_any test (everyones rest))
+    ≡ list_any (λ x. is_everyones (who x) && test x) all
+any_for_all {X} who test keep all kept rest first second =
+    (λ i. part keep kept first i || part (λ x. not (keep x)) rest second i)
+    ∙ any_either (λ x. keep x && own x) (λ x. not (keep x) && own x) all
+    ∙ (λ i. list_any (λ x. whole (keep x) (own x) i) all)
+  where
+    own : X → Bool
+    own x = is_everyones (who x) && test x
+
+    part : (p : X → Bool) (some : ByOwner X) → IsGrouped who (filter p all) some
+        → list_any test (everyones some) ≡ list_any (λ x. p x && own x) all
+    part p some grouped = ap (list_any test) grouped.everyone
+        ∙ any_kept test (λ x. is_everyones (who x)) (filter p all) ∙ any_kept own p all
+
+    whole : (k t : Bool) → ((k && t) || (not k && t)) ≡ t
+    whole true true = refl
+    whole true false = refl
+    whole false t = refl

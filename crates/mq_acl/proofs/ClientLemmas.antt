@@ -1,17 +1,20 @@
 -- Where no row asks for the client id, all clients of a user name get the same answer.
-use Rattle.std.proofs.Common.{◌≡◌, ℕ, Bool, false, not, ◌&&◌, ◌||◌, cond, List, [], ◌∷◌}
+use Rattle.std.proofs.Common.{◌≡◌, ℕ, Bool, true, false, true≢false, codes, not, ◌&&◌, ◌||◌, cond}
+use Rattle.std.proofs.Common.{List, [], ◌∷◌}
 use Rattle.std.proofs.Common.{Option, Some, refl, ap, sym, ◌∙◌, length, take, ◌-◌, suc, zero}
-use Rattle.std.proofs.lemmas.Bool.{or_parts}
+use Rattle.std.proofs.lemmas.Bool.{and_parts, or_parts}
+use Rattle.std.specs.Str.{bytes_eq}
 use Rattle.std.specs.Cmp.Lexicographic.{pointwise}
 use Rattle.std.specs.List.{list_any, filter}
 use Rattle.std.specs.Option.{option_or, unwrap_or}
 use Rattle.mq_topic.specs.Levels.{levels}
-use Rattle.mq_topic.specs.Matching.{ends_with_hash, levels_match_by}
+use Rattle.mq_topic.specs.Matching.{ends_with_hash, level_matches, levels_match_by}
 use Rattle.mq_topic.specs.Texts.{parents}
 use Rattle.mq_acl.specs.Access.{applies, begins_with_dollar, concerns, covers, grants, is_deny}
-use Rattle.mq_acl.specs.Access.{row_level_matches, rows_allow}
+use Rattle.mq_acl.specs.Access.{is_user, pattern_level_matches, row_level_matches, rows_allow}
 use Rattle.mq_acl.specs.AccessLists.{AccessList, allow_by, allowed}
-use Rattle.mq_acl.specs.Clients.{ask_client, asks_client, is_client_mark}
+use Rattle.mq_acl.specs.Clients.{ask_client, ask_client_about, asks_client, asks_client_about}
+use Rattle.mq_acl.specs.Clients.{is_client_mark, may_be_level, may_cover}
 use Rattle.mq_acl.specs.Mosquitto.{decision, known_user, mosquitto_allows, row_covers, verdict}
 use Rattle.mq_acl.specs.Rows.{AclRow, Who, Anonymous, Named, Everyone}
 use Rattle.mq_acl.specs.RowsByOwner.{is_everyones, is_own}
@@ -119,3 +122,100 @@ pub same_for_all : (list : AccessList) → ask_client list.rules list.rows ≡ f
 unfolding allowed
 same_for_all list none a b user name direction =
     same_by a b user name direction list.rules list.rows none
+
+-- ## Of one topic
+
+more_false : (b c : Bool) → (b ≡ true → c ≡ true) → c ≡ false → b ≡ false
+more_false true c more none = sym (more refl) ∙ none
+more_false false c more none = refl
+
+module _ (p q : List ℕ → List ℕ → Bool) (more : (w l : List ℕ) → p w l ≡ true → q w l ≡ true) where
+  pointwise_more : (fs ns : List (List ℕ)) → pointwise p fs ns ≡ true → pointwise q fs ns ≡ true
+  pointwise_more [] [] h = refl
+  pointwise_more [] (n ∷ ns) h = h
+  pointwise_more (f ∷ fs) [] h = h
+  pointwise_more (f ∷ fs) (n ∷ ns) h =
+      let parts = and_parts (p f n) _ h in
+      (λ i. more f n parts.0 i && pointwise_more fs ns parts.1 i)
+
+  levels_more : (fs ns : List (List ℕ)) → levels_match_by p fs ns ≡ true
+      → levels_match_by q fs ns ≡ true
+  levels_more fs ns h = by (ends_with_hash fs) h
+    where
+      by : (b : Bool) → cond b (pointwise p (parents fs) (take (length fs - 1) ns))
+          (pointwise p fs ns) ≡ true
+          → cond b (pointwise q (parents fs) (take (length fs - 1) ns)) (pointwise q fs ns) ≡ true
+      by true k = pointwise_more (parents fs) (take (length fs - 1) ns) k
+      by false k = pointwise_more fs ns k
+
+may_be : (client : List ℕ) (user : Option (List ℕ)) (w l : List ℕ)
+    → pattern_level_matches client user w l ≡ true → may_be_level w l ≡ true
+may_be client user w l h = by (is_client_mark w) (bytes_eq w (codes "%u")) h
+  where
+    by : (c u : Bool)
+        → cond c (bytes_eq l client) (cond u (is_user l user) (level_matches w l)) ≡ true
+        → (c || u || level_matches w l) ≡ true
+    by true u k = refl
+    by false true k = refl
+    by false false k = k
+
+-- a row for all clients that covers a name may do so
+covers_more : (client : List ℕ) (user : Option (List ℕ)) (name : List ℕ) (row : AclRow)
+    → is_everyones row.who ≡ true → covers client user name row ≡ true → may_cover name row ≡ true
+covers_more client user name row all h = at row.who all h
+  where
+    fits : Bool
+    fits = not (begins_with_dollar name) || begins_with_dollar row.filter
+
+    at : (who : Who) → is_everyones who ≡ true
+        → (fits && levels_match_by (row_level_matches who client user) (levels row.filter)
+        (levels name)) ≡ true → may_cover name row ≡ true
+    at Anonymous none k = absurd (true≢false (sym none))
+    at (Named user) none k = absurd (true≢false (sym none))
+    at Everyone is k =
+        let parts = and_parts fits _ k in
+        (λ i. parts.0 i && levels_more (pattern_level_matches client user) may_be_level
+        (may_be client user) (levels row.filter) (levels name) parts.1 i)
+
+module _ (a b : List ℕ) (user : Option (List ℕ)) (name : List ℕ) (direction : Direction) where
+  covers_same_about : (row : AclRow) → asks_client_about Own name row ≡ false
+      → covers a user name row ≡ covers b user name row
+  covers_same_about row none =
+      by (is_everyones row.who) (list_any is_client_mark (levels row.filter)) refl refl none
+    where
+      by : (all mark : Bool) → is_everyones row.who ≡ all
+          → list_any is_client_mark (levels row.filter) ≡ mark
+          → (all && (mark && may_cover name row)) ≡ false
+          → covers a user name row ≡ covers b user name row
+      by true true e f k =
+          more_false _ _ (covers_more a user name row e) k
+          ∙ sym (more_false _ _ (covers_more b user name row e) k)
+      by true false e f k = covers_same a b user name direction row (λ i. e i && f i)
+      by false mark e f k = covers_same a b user name direction row
+          (λ i. e i && list_any is_client_mark (levels row.filter))
+
+  own_same_about : (rows : List AclRow) → ask_client_about Own name rows ≡ false
+      → rows_allow rows a user name direction ≡ rows_allow rows b user name direction
+  own_same_about rows none = (λ i. not (at (λ row. is_deny row.access) i)
+      && at (λ row. grants direction row.access) i)
+    where
+      at : (t : AclRow → Bool) → list_any (λ row. concerns a user name row && t row) rows
+          ≡ list_any (λ row. concerns b user name row && t row) rows
+      at t = same_any (asks_client_about Own name) (λ row. concerns a user name row && t row)
+          (λ row. concerns b user name row && t row)
+          (λ row e. ap (λ c. (applies user row.who && c) && t row) (covers_same_about row e))
+          rows none
+
+-- a list whose rows don't ask for it
+pub same_about : (list : AccessList) (name : List ℕ)
+    → ask_client_about list.rules name list.rows ≡ false
+    → (a b : List ℕ) (user : Option (List ℕ)) (direction : Direction)
+    → allowed (Some list) a user name direction ≡ allowed (Some list) b user name direction
+unfolding allowed
+same_about list name none a b user direction = by list.rules none
+  where
+    by : (rules : Rules) → ask_client_about rules name list.rows ≡ false
+        → allow_by rules list.rows a user name direction
+        ≡ allow_by rules list.rows b user name direction
+    by Own k = own_same_about a b user name direction list.rows k
+    by Mosquitto k = mosquitto_same a b user name direction list.rows k

@@ -4,13 +4,14 @@ ghost use Rattle.std.specs.List.{list_any};
 ghost use Rattle.std.specs.Option.{option_copied};
 ghost use Rattle.mq_acl.specs.Rows.{out_of_memory, rows_by, rows_of};
 ghost use Rattle.mq_acl.specs.AccessLists.{allowed};
-ghost use Rattle.mq_acl.specs.Clients.{ask_client, asks_client, is_client_mark};
+ghost use Rattle.mq_acl.specs.Clients.{ask_client, ask_client_about};
 ghost use Rattle.mq_topic.specs.Levels.{levels};
 ghost use Rattle.mq_acl.specs.Views.{row_view, row_views};
 ghost use Rattle.mq_acl.specs.declared.access.Direction.TheVariants.{Reading, Writing};
 
 use crate::access::Direction;
 use crate::check::rows_allow;
+use crate::clients::{ask_client, rows_ask_about};
 use crate::fault::{AclFault, AclKind};
 use crate::mosquitto::mosquitto_allows;
 use crate::read::read_rows_by;
@@ -59,27 +60,6 @@ impl Model for Acl {
 
     ghost invariant = { λ acl. IsSplit acl.order.value.items acl.by_access
         × (acl.asks_client ≡ ask_client acl.rules (row_views acl.order.value.items)) };
-}
-
-// Whether what the row covers may depend on the client id.
-fn asks_client(rules: Rules, row: &Row) -> bool
-    ensures { result ≡ asks_client rules (row_view row.now) }
-{
-    matches!(row.owner, Owner::Everyone)
-        && (rules == Rules::Mosquitto || has_client_mark(&row.filter))
-}
-
-fn has_client_mark(filter: &TopicFilter) -> bool
-    ensures { result ≡ list_any is_client_mark (levels filter.now) }
-{
-    filter.text().split('/').any(|level| level == "%c")
-}
-
-// Whether what the rows decide may depend on it.
-fn ask_client(rules: Rules, rows: &[Row]) -> bool
-    ensures { result ≡ list_any (λ row. asks_client rules (row_view row)) rows.now }
-{
-    rows.iter().any(|row| asks_client(rules, row))
 }
 
 impl Acl {
@@ -145,6 +125,19 @@ impl Acl {
             ≡ allowed (Some self.now) b user name direction }
     {
         self.asks_client
+    }
+
+    /// The same of this topic alone. It looks at the rows for all clients.
+    pub fn asks_client_about(&self, name: &TopicName) -> bool
+        ensures value { result ≡ ask_client_about self.now.rules name.now self.now.rows }
+        ensures same { result ≡ false → (a b : List ℕ) (user : Option (List ℕ))
+            (direction : Direction) → allowed (Some self.now) a user name.now direction
+            ≡ allowed (Some self.now) b user name.now direction }
+    {
+        match self.rules {
+            Rules::Own => rows_ask_about(&self.by_access, name),
+            Rules::Mosquitto => self.asks_client,
+        }
     }
 
     // Whether the rows allow it by the list's rules.

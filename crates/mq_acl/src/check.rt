@@ -38,8 +38,8 @@ impl LevelTest for RowLevels<'_> {
     }
 }
 
-// A name that begins with `$` needs a filter that does.
-fn dollar_fits(filter: &str, name: &str) -> bool
+/// A name that begins with `$` needs a filter that does.
+pub(crate) fn dollar_fits(filter: &str, name: &str) -> bool
     ensures { result ≡ (not (begins_with_dollar name.now) || begins_with_dollar filter.now) }
 {
     !name.starts_with('$') || filter.starts_with('$')

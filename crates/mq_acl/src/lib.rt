@@ -5,6 +5,7 @@ mod access;
 mod acl;
 mod by_owner;
 mod check;
+mod clients;
 mod entry;
 mod fault;
 mod filled;

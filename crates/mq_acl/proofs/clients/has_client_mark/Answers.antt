@@ -4,7 +4,7 @@ use Rattle.std.proofs.lemmas.Iterator.Splits.{YieldsList-from_str_split}
 use Rattle.std.proofs.lemmas.Iterator.Search.{any_from_yields_List}
 use Rattle.mq_acl.specs.Clients.{is_client_mark}
 use Rattle.mq_topic.specs.Levels.{levels}
-use Rattle.mq_acl.proofs.acl.has_client_mark.Goals as goal
+use Rattle.mq_acl.proofs.clients.has_client_mark.Goals as goal
 
 pub returns : goal.returns
 returns c = any_from_yields_List is_client_mark _ _ _ c.any.ensures.ran
