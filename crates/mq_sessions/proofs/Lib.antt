@@ -6,3 +6,4 @@ pub mod EndLemmas
 pub mod TakenLemmas
 pub mod EntryLemmas
 mod HeapLemmas
+mod WalkLemmas

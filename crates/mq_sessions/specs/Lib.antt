@@ -5,3 +5,4 @@ pub mod Dues
 pub mod Ends
 pub mod Near
 pub mod Resumed
+pub mod Walks

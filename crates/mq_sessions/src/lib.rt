@@ -5,6 +5,7 @@
 
 mod sessions;
 
+pub use sessions::finder::SessionFinder;
 pub use sessions::queue::queued_copy;
 pub use sessions::queued::QueuedCopy;
 pub use sessions::session::{Fate, Presence, Session, Waiting};

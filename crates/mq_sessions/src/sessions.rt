@@ -28,10 +28,12 @@ ghost use Rattle.mq_sessions.specs.Views.{session_in};
 mod disconnection;
 mod end_heap;
 mod ends;
+pub(crate) mod finder;
 pub(crate) mod queue;
 pub(crate) mod queued;
 mod resume;
 pub(crate) mod session;
+mod walk;
 
 use crate::sessions::queued::QueuedCopy;
 use crate::sessions::session::Session;
@@ -41,6 +43,7 @@ use ends::{drop_stale_ends, push_end, reserve_ends};
 use mq_world::{Clock, Delivery};
 use std::alloc::{AllocError, Global};
 use std::collections::BTreeMap;
+use std::collections::btree_map::Iter;
 use std::marker::Model;
 use std::rc::RcStr;
 
@@ -147,6 +150,15 @@ impl Sessions {
             ≡ session_of self.now id.now }
     {
         self.by_id.get(id)
+    }
+
+    // All of them, with the ids of their clients.
+    fn entries(&self) -> Iter<'_, RcStr, Session>
+        ensures all { map session_in result ≡ self.now }
+        ensures ordered { IsStrictlySortedBy session_cmp self.now }
+    {
+        learn_order(&self.by_id);
+        self.by_id.iter()
     }
 
     /// The copies that waited for a client that connects, with what is left of their intervals, if
