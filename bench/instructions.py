@@ -28,6 +28,8 @@ ROWS = [
      201, "scripts.py list 1000"),
     ("a publish to 1,000 clients of 100 users of 100 lines in turn", "scripts.py mixed 1000 100 40",
      2_001, "scripts.py longlist 100 100"),
+    ("the same, and a pattern of another topic has %c", "scripts.py mixed 1000 100 40",
+     2_001, "scripts.py longlist 100 100 1"),
     ("a publish to 1,000 clients of a user of ten lines each", "scripts.py mixed 1000 1000 40",
      2_001, "scripts.py userlist 1000"),
     ("a publish to 5 subscribers, 10 users of ten lines each", "scripts.py users 220", 30,

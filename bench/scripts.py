@@ -11,8 +11,9 @@ colleagues CLIENTS PUBLISHES FIRST  publishes to CLIENTS subscribers of the user
 users PUBLISHES               publishes to 5 subscribers for the access list that `userlist` writes
 userlist USERS                an access list of ten lines each for USERS users
 mixed CLIENTS USERS PUBLISHES publishes to CLIENTS subscribers of USERS users in turn
-longlist USERS LINES          an access list of LINES lines each for USERS users, of which the last
-                              grants these publishes
+longlist USERS LINES [MARKS]  an access list of LINES lines each for USERS users, of which the last
+                              grants these publishes, and of MARKS patterns of other topics that
+                              have %c
 others OTHERS PUBLISHES       publishes to 5 subscribers beside OTHERS subscriptions that
                               don't match
 overlapping PUBLISHES         publishes to 5 subscribers, each by three filters with identifiers
@@ -112,7 +113,9 @@ def mixed(clients, users, publishes):
         line(do="publish", client="sensor", topic="site/1/state")
 
 
-def long_list(users, lines):
+def long_list(users, lines, marks=0):
+    for i in range(marks):
+        write(f"pattern read area/{i}/%c\n")
     for user in range(users):
         write(f"user user-{user}\n")
         for i in range(lines - 1):

@@ -13,11 +13,11 @@ def receivers(n, **fields):
     return before, publish("site/1", qos=1, **fields)
 
 
-def colleagues(n, users=1, lines=1_000):
+def colleagues(n, users=1, lines=1_000, more=""):
     """Clients of users in turn, of whose many lines the last lets them read."""
     rows = "".join(f"topic read area/{i}\n" for i in range(lines))
     lists = (f"user anna-{i}\n{rows}topic readwrite site/+\n" for i in range(users))
-    before = [line("acl", text="".join(lists))]
+    before = [line("acl", text=more + "".join(lists))]
     for i in range(n):
         before += [line("connect", f"client-{i}", user=f"anna-{i % users}"),
                    subscribe("site/+", f"client-{i}", qos=1)]
@@ -27,6 +27,11 @@ def colleagues(n, users=1, lines=1_000):
 def mixed_colleagues(n):
     """Those of more users than a publish asks about before it keeps what it finds."""
     return colleagues(n, users=12, lines=100)
+
+
+def marked_colleagues(n):
+    """The same, and a pattern of another topic that asks for client ids."""
+    return colleagues(n, users=12, lines=100, more="pattern read area/%c\n")
 
 
 def sleepers(n, **fields):
@@ -129,6 +134,8 @@ CONCERNS = [
             {"instructions": 6_000}),
     Concern("a publish to clients of 12 users of 101 lines in turn", mixed_colleagues, each,
             {"instructions": 6_000}),
+    Concern("the same, and a pattern of another topic has %c", marked_colleagues, each,
+            {"instructions": 6_000}),
     Concern("a publish that waits for clients", sleepers, none, {"room": 600, "held": 250}),
     Concern("a publish to groups", served_groups, each, {"room": 450}),
     Concern("a publish to members of a group", members, one, {"room": 10}),
@@ -150,10 +157,10 @@ PAYLOADS = [("a publish to clients", receivers, each, 1.5),
             ("a connect that is sent waiting copies", waiting, each, 1.5)]
 
 # So many things as no other test has at once.
-LARGE = {receivers: 20_000, colleagues: 20_000, mixed_colleagues: 20_000, sleepers: 20_000,
-         served_groups: 20_000, members: 20_000, matching_filters: 16_384, retained: 100_000,
-         waiting: 100_000, rows: 40_000, own_subscriptions: 20_000, ends: 20_000,
-         counted: 20_000}
+LARGE = {receivers: 20_000, colleagues: 20_000, mixed_colleagues: 20_000,
+         marked_colleagues: 20_000, sleepers: 20_000, served_groups: 20_000, members: 20_000,
+         matching_filters: 16_384, retained: 100_000, waiting: 100_000, rows: 40_000,
+         own_subscriptions: 20_000, ends: 20_000, counted: 20_000}
 
 # How many bytes each thing takes that is kept, some twice of what it takes: with the tables that it
 # stands in, which double at times, and two levels of the tree of its own.

@@ -1,5 +1,5 @@
 -- What is asked of an access list while a message is sent, and what is kept of it.
-use Rattle.std.specs.Prelude.{◌≡◌, ℕ, Bool, List, Option, IfSome}
+use Rattle.std.specs.Prelude.{◌≡◌, ℕ, Bool, true, List, Option, IfSome}
 use denote.Ref.{Bor}
 use Rattle.std.specs.Option.{option_copied, option_eq}
 use Rattle.std.specs.Cmp.Lexicographic.{pointwise}
@@ -27,6 +27,11 @@ receivers access sessions topic = record {
 abbrev pub IsFound : Option AccessList → List ℕ → Option (List ℕ) → Bool → Type 0
 IsFound access topic user may_read = (client : List ℕ)
     → may_read ≡ allowed access client user topic Reading
+
+-- what is allowed depends on the user name alone
+abbrev pub IsCommon : Option AccessList → List ℕ → Bool → Type 0
+IsCommon access topic common = common ≡ true → (a b : List ℕ) (user : Option (List ℕ))
+    → allowed access a user topic Reading ≡ allowed access b user topic Reading
 
 -- what is kept of the last user name that the list was asked about, and by user name
 pub record AreFound {S : Type 0} (access : Option AccessList) (topic : List ℕ)

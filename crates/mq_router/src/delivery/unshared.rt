@@ -56,7 +56,10 @@ pub(crate) fn unshared_copies(
         copies: Vec::with_capacity(alloc, most)?,
         queued: Vec::new(alloc),
     };
-    let mut fates = Fates::new(alloc, view, outgoing.message.topic);
+    if matches.is_empty() {
+        return Ok(made);
+    }
+    let mut fates = Fates::new(alloc, view, outgoing.message.topic, matches.len());
     for chunk in matches.chunk_by(|a, b| a.client == b.client) {
         let client = chunk[0].client;
         let fate = fates.fate(client, limit);
