@@ -5,6 +5,7 @@ One line for each client and topic that differ; copies that the broker sent agai
 Exit status: 0 none differs; 1 some do; 2 usage, a file, or an output that isn't of this log.
 """
 import argparse
+import gc
 
 from ..common.files import STDIN, keep_apart, plain_file, refuse_stdin_twice
 from ..common.messages import counted, say
@@ -33,6 +34,8 @@ def add_arguments(parser: argparse.ArgumentParser) -> None:
 
 
 def run(options: argparse.Namespace) -> int:
+    # Nothing here refers to itself, and to look for what does takes a tenth of the time and more.
+    gc.disable()
     files = [*options.log, options.output, options.begin]
     refuse_stdin_twice(files)
     keep_apart(files)
