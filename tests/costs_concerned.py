@@ -149,11 +149,11 @@ CONCERNS = [
 ]
 
 # How many blocks of the length of a long payload each copy may take. The text that is printed is
-# one; a retained message's payload is copied out of the tree. Halves are for what happens at times.
+# one. Halves are for what happens at times.
 PAYLOADS = [("a publish to clients", receivers, each, 1.5),
             ("a publish to groups", served_groups, each, 1.5),
             ("a publish that waits for clients", sleepers, none, 0.5),
-            ("a subscribe that is sent retained messages", retained, each, 2.5),
+            ("a subscribe that is sent retained messages", retained, each, 1.5),
             ("a connect that is sent waiting copies", waiting, each, 1.5)]
 
 # So many things as no other test has at once.

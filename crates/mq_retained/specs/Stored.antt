@@ -1,6 +1,6 @@
 -- What the tree of retained messages and the index of their deadlines show.
 use Rattle.std.specs.Prelude.{◌≡◌, ℕ, ◌+◌, ◌^◌, ◌<◌, Bool, ◌&&◌, not, List, length, map}
-use Rattle.std.specs.Prelude.{string_bytes, Option, IfSome}
+use Rattle.std.specs.Prelude.{Option, IfSome}
 use Rattle.std.specs.List.{AllByRecursion}
 use Rattle.std.specs.Rc.{rc_str_bytes}
 use Rattle.mq_topic.specs.Levels.{levels}
@@ -17,7 +17,7 @@ use Rattle.mq_retained.specs.declared.retained.stored.Stored.{Stored}
 abbrev pub message_in : Stored → Retained
 message_in s = record {
   topic = s.topic;
-  payload = string_bytes s.payload;
+  payload = rc_str_bytes s.payload;
   qos = s.qos;
   publisher = rc_str_bytes s.publisher;
   deadline = s.deadline;

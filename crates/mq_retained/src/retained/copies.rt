@@ -55,7 +55,7 @@ fn retained_copy(
     Ok(Delivery {
         client: receiver.client.clone()?,
         topic: RcStr::from_str(alloc, stored.topic.text())?,
-        payload: RcStr::from_str(alloc, stored.payload.as_str())?,
+        payload: stored.payload.clone()?,
         qos: stored.qos.min(receiver.options.qos),
         retain: true,
         expiry: receiver.clock.time_left(stored.deadline),

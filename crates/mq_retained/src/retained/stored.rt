@@ -10,7 +10,8 @@ use std::rc::RcStr;
 /// The message that is retained for a topic.
 pub(crate) struct Stored {
     pub(crate) topic: TopicName,
-    pub(crate) payload: String,
+    /// As its copies share it.
+    pub(crate) payload: RcStr,
     pub(crate) qos: u8,
     pub(crate) publisher: RcStr,
     pub(crate) deadline: Option<u64>,
@@ -36,7 +37,7 @@ impl Stored {
     {
         Ok(Stored {
             topic: message.topic.clone()?,
-            payload: String::from_str(alloc, message.payload)?,
+            payload: RcStr::from_str(alloc, message.payload)?,
             qos: message.qos,
             publisher: message.publisher.clone()?,
             deadline: message.deadline,
