@@ -1,6 +1,6 @@
 //! The lists that are made for a region and a client, and whether they are those of another client.
 ghost use Rattle.std.specs.Prelude.{◌≡◌, ◌∷◌, [], IfOk, true};
-ghost use Rattle.mq_acl.specs.Views.{owner_view, row_view};
+ghost use Rattle.mq_acl.specs.Views.{row_view};
 ghost use Rattle.mq_through.specs.Made.{AreAlike, DecideAlike, IsClient, IsComparison, IsMade};
 ghost use Rattle.mq_through.specs.Needed.{AreNeeded};
 ghost use Rattle.mq_through.specs.Parts.{IsPart};
@@ -9,7 +9,8 @@ use crate::comparison::Comparison;
 use crate::idle::is_idle;
 use crate::lists::{made_of_new, made_of_old};
 use crate::needed::Needed;
-use mq_acl::{Owner, Row};
+use mq_acl::Row;
+use mq_differences::same_owner;
 use mq_regions::Region;
 use std::alloc::{AllocError, Global};
 
@@ -26,17 +27,6 @@ impl Drop for Made {
     }
 }
 
-fn is_same_owner(owner: &Owner, other: &Owner) -> bool
-    ensures { result ≡ true → owner_view owner.now ≡ owner_view other.now }
-{
-    match (owner, other) {
-        (Owner::Anonymous, Owner::Anonymous) => true,
-        (Owner::Named(name), Owner::Named(other)) => name == other,
-        (Owner::Everyone, Owner::Everyone) => true,
-        _ => false,
-    }
-}
-
 fn is_same_row(row: &Row, other: &Row) -> bool
     ensures line { result ≡ true → row.now.line ≡ other.now.line }
     ensures view { result ≡ true → row_view row.now ≡ row_view other.now }
@@ -44,7 +34,7 @@ fn is_same_row(row: &Row, other: &Row) -> bool
     row.line == other.line
         && row.access == other.access
         && row.filter == other.filter
-        && is_same_owner(&row.owner, &other.owner)
+        && same_owner(&row.owner, &other.owner)
 }
 
 // Whether both rows are the same, or neither is about a topic of the region.
