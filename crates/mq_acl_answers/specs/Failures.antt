@@ -18,7 +18,7 @@ use Rattle.mq_witness.specs.Limits.{has_short_levels, is_short, long_line, marke
 use Rattle.mq_jsonl.specs.Lines.{all_lines}
 use Rattle.mq_reach.specs.Faults.{has_long_at}
 use Rattle.mq_reach.specs.Reach.{can_fill, is_short_user, list_by}
-use Rattle.mq_reach.specs.Script.{script_limit}
+use Rattle.mq_jsonl.specs.Feeding.{script_limit}
 use Rattle.mq_reach.specs.Subscriptions.{commands_of, subscriptions}
 use Rattle.mq_acl_answers.specs.Answers.{AreRows}
 use Rattle.mq_acl_answers.specs.Who.{is_unshared}

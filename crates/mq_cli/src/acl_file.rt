@@ -5,7 +5,8 @@ ghost use Rattle.mq_cli.specs.AclFile.{AclFileEnds, IsAnswerTo, IsWholeFile, acl
 ghost use Rattle.mq_run.specs.Ending.{watch};
 
 use mq_acl::{Acl, AclFault, AclKind, Rules};
-use mq_run::{PIECE, Source};
+use mq_jsonl::PIECE;
+use mq_run::Source;
 use std::alloc::{AllocError, Global};
 use std::str;
 use thiserror::Error;

@@ -3,6 +3,10 @@ use Rattle.std.specs.Prelude.{◌≡◌, ℕ, List, [], ◌∷◌, ◌++◌, tak
 use Rattle.mq_jsonl.specs.Lines.{kept, last_piece, whole_lines}
 use Rattle.mq_jsonl.specs.declared.line_feeder.LineFeeder.{LineFeeder}
 
+-- how many bytes a script may have
+unfoldable pub script_limit : ℕ
+script_limit = 4294967296
+
 -- what is kept of the line that has not ended yet
 abbrev pub open_line : LineFeeder → List ℕ
 open_line f = if f.is_whole then [] else f.line.items

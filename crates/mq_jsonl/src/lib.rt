@@ -15,6 +15,6 @@ mod printer;
 mod read;
 
 pub use fault::LineFault;
-pub use line_feeder::LineFeeder;
+pub use line_feeder::{LineFeeder, PIECE, SCRIPT_LIMIT};
 pub use printer::{Printer, print_answer, print_line_fault, print_refusal};
 pub use read::{LINE_LIMIT, read_line};

@@ -7,6 +7,12 @@ ghost use Rattle.mq_jsonl.specs.Feeding.{EndsFirst, EndsNone, HasNext, Holds, op
 use crate::line_buffer::{LINE_ROOM, keep_front, split_line};
 use std::alloc::{AllocError, Global};
 
+/// How many bytes a script may have.
+pub const SCRIPT_LIMIT: u64 = 4_294_967_296;
+
+/// How many bytes of a script are asked for at a time.
+pub const PIECE: usize = 65_536;
+
 /// Makes lines of the bytes of a script, of which so many may come. It keeps no more than one line,
 /// and of that line one byte more than a line may have: a longer one is not a command, whatever
 /// follows.

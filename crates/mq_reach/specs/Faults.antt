@@ -14,7 +14,8 @@ use Rattle.mq_world.specs.World.{Request}
 use Rattle.mq_witness.specs.Limits.{has_short_levels, is_short, long_line}
 use Rattle.mq_reach.specs.Reach.{can_fill, is_short_user, list_by}
 use Rattle.mq_jsonl.specs.Lines.{all_lines, whole_lines}
-use Rattle.mq_reach.specs.Script.{HoldsScript, script_limit}
+use Rattle.mq_jsonl.specs.Feeding.{script_limit}
+use Rattle.mq_reach.specs.Script.{HoldsScript}
 use Rattle.mq_reach.specs.Search.{IsSearched}
 use Rattle.mq_reach.specs.Subscriptions.{Kept, Subscription, commands_of, subscriptions}
 use Rattle.mq_reach.specs.Tracked.{TrackedSubscription, is_open_of}

@@ -6,10 +6,6 @@ use Rattle.mq_jsonl.specs.Feeding.{Holds}
 use Rattle.mq_reach.specs.Search.{IsSearched}
 use Rattle.mq_reach.specs.declared.reading.Reading.{Reading}
 
--- how many bytes a script may have
-unfoldable pub script_limit : ℕ
-script_limit = 4294967296
-
 -- the whole lines of what was given are searched, and what follows them is kept
 pub record HoldsScript (list : AccessList) (given : List ℕ) (r : Reading) : Type 0 where
   pub searched : IsSearched list (whole_lines given) r.search

@@ -8,22 +8,17 @@ ghost use Rattle.mq_jsonl.specs.Feeding.{open_line};
 ghost use Rattle.mq_reach.specs.Reach.{list_by};
 ghost use Rattle.mq_reach.specs.Search.{IsFound};
 ghost use Rattle.mq_reach.specs.Faults.{FailsIn, IsFaultAmong, IsScriptFault, StopsWith};
-ghost use Rattle.mq_reach.specs.Script.{HoldsScript, TakesBytes, script_limit};
+ghost use Rattle.mq_jsonl.specs.Feeding.{script_limit};
+ghost use Rattle.mq_reach.specs.Script.{HoldsScript, TakesBytes};
 ghost use Rattle.mq_reach.specs.Subscriptions.{subscriptions};
 
 use crate::question::{SearchFault, list_of};
 use crate::reach::Reach;
 use crate::search::{Findings, Search};
 use mq_acl::{Row, Rules};
-use mq_jsonl::LineFeeder;
+use mq_jsonl::{LineFeeder, PIECE, SCRIPT_LIMIT};
 use std::alloc::Global;
 use std::io::{self, Read};
-
-/// How many bytes a script may have, as many as of a run.
-const SCRIPT_LIMIT: u64 = 4_294_967_296;
-
-/// How many bytes are asked for at a time.
-const PIECE: usize = 65_536;
 
 /// Why a script isn't searched to its end.
 #[derive(Drop)]

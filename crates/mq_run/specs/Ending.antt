@@ -9,10 +9,6 @@ use Rattle.mq_run.specs.declared.outcome.RunFault.TheVariants as fault
 use Rattle.mq_run.specs.Output.{output, whole_output, text_of_lines, Summarizes}
 use Rattle.mq_jsonl.specs.Lines.{whole_lines}
 
--- how many bytes a script may have
-unfoldable pub script_limit : ℕ
-script_limit = 4294967296
-
 -- how many calls of a device had failed before and after
 pub record Failures : Type 0 where
   pub before : ℕ

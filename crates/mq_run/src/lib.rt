@@ -12,7 +12,7 @@ mod progress;
 mod runner;
 mod write;
 
-pub use devices::{DeviceFault, PIECE, Sink, Source, StdSink, StdSource};
+pub use devices::{DeviceFault, Sink, Source, StdSink, StdSource};
 pub use outcome::{RUN_FAILED, RunFault, Summary, exit_status};
 pub use runner::{RunOptions, run, run_unbuffered, run_with, run_within};
 pub use write::{flush, write_all};

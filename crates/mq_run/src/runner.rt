@@ -4,19 +4,17 @@ ghost use Rattle.std.specs.Prelude.{OnOk, IfErr, IsTrue, false, length};
 ghost use Rattle.std.specs.Io.KnownBytes.{Consumes, Keeps};
 ghost use Rattle.mq_world.specs.World.{World};
 ghost use Rattle.mq_router.specs.StandsFor.{StandsFor};
-ghost use Rattle.mq_jsonl.specs.Feeding.{open_line};
-ghost use Rattle.mq_run.specs.Ending.{AnswersWhole, EndsOver, failures_of, watch, script_limit};
+ghost use Rattle.mq_jsonl.specs.Feeding.{open_line, script_limit};
+ghost use Rattle.mq_run.specs.Ending.{AnswersWhole, EndsOver, failures_of, watch};
 ghost use Rattle.mq_run.specs.Running.{SoFar, TakesAll};
 
-use crate::devices::{PIECE, Sink, Source};
+use crate::devices::{Sink, Source};
 use crate::outcome::{RunFault, Summary};
 use crate::progress::Progress;
 use crate::write::flush;
+use mq_jsonl::{PIECE, SCRIPT_LIMIT};
 use mq_router::Router;
 use std::alloc::Global;
-
-/// How many bytes a script may have.
-const SCRIPT_LIMIT: u64 = 4_294_967_296;
 
 /// How a script is run.
 #[derive(Clone, Copy, Debug, PartialEq, Eq)]

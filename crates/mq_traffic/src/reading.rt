@@ -1,14 +1,8 @@
 //! A script that is read line by line.
 use crate::traffic::Traffic;
-use mq_jsonl::LineFeeder;
+use mq_jsonl::{LineFeeder, PIECE, SCRIPT_LIMIT};
 use std::alloc::{AllocError, Global};
 use std::io::{self, ErrorKind, Read};
-
-/// How many bytes a script may have, as many as of a run.
-const SCRIPT_LIMIT: u64 = 4_294_967_296;
-
-/// How many bytes are asked for at a time.
-const PIECE: usize = 65_536;
 
 /// Why a script isn't read to its end.
 #[derive(Drop)]

@@ -4,7 +4,8 @@ use Rattle.mq_acl.specs.AccessLists.{AccessList}
 use Rattle.mq_jsonl.specs.Lines.{all_lines}
 use Rattle.mq_reach.specs.Faults.{IsFaultAmong}
 use Rattle.mq_reach.specs.Subscriptions.{subscriptions}
-use Rattle.mq_reach.specs.Script.{TakesBytes, script_limit}
+use Rattle.mq_jsonl.specs.Feeding.{script_limit}
+use Rattle.mq_reach.specs.Script.{TakesBytes}
 use Rattle.mq_reach.proofs.FaultLemmas.{script_fault, stopped}
 use Rattle.mq_reach.proofs.ScriptLemmas.{HoldsScript-start}
 use Rattle.mq_reach.proofs.reading.find_unreached.Goals as goal

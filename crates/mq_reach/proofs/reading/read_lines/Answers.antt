@@ -2,9 +2,8 @@ use Rattle.std.proofs.Common.{◌≡◌, ◌++◌, ◌+◌, ◌<◌, [], ℕ, Li
 use Rattle.std.proofs.Common.{append-nil, arith, length-append, length-take-le, sym, ◌∙◌}
 use Rattle.std.proofs.KnownBytes.{Consumes-nil, Consumes-trans}
 use Rattle.std.proofs.lemmas.Result.{err_from_is_err_and}
-use Rattle.mq_jsonl.specs.Feeding.{open_line}
+use Rattle.mq_jsonl.specs.Feeding.{open_line, script_limit}
 use Rattle.mq_jsonl.proofs.FeedLemmas.{counted_more, lines_more}
-use Rattle.mq_reach.specs.Script.{script_limit}
 use Rattle.mq_reach.specs.declared.reading.Reading.{Reading}
 use Rattle.mq_reach.proofs.FaultLemmas.{FailsIn-more}
 use Rattle.mq_reach.proofs.ScriptLemmas.{TakesBytes-fed, TakesBytes-none, TakesBytes-then, too_long}
