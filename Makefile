@@ -1,14 +1,19 @@
 # all, or make alone: proves mqroute and mqroute-acl with what they stand on, side by side, builds them, and puts them and the
 # tools into bin/.
 # run: shows answers at once, with the programs of bin/ or without a proof. SCRIPT=mine.jsonl ACL=mine.acl: of one's own.
-# check: all that needs no proof, with the programs of bin/.
+# check: all that needs no proof, with the programs of bin/, side by side.
 # test: the gate: rules of the sources, every proof from nothing, the must-fail edits, the tests, then all of check, and each
 # growth of memory refused in turn.
 # package: a Debian package and an archive of the same files, in dist/, of the programs of bin/.
 # bench: measures the programs of bin/ (bench/README.md).
 # install: puts the programs of bin/ and the tools beside real brokers below PREFIX, with man pages and completion, and
 # compiles the tools' modules for PYTHON, where there is one (PYTHON= compiles none); uninstall takes all of it out again.
-.PHONY: all run check test package bench install uninstall mended programs
+# The parts of check, side by side: what takes longest comes first. Each is a file of tests/, but for check-tests, the tests of
+# that folder, and check-tools, those of the tools.
+CHECKS = tools costs.py acl.py readme.py package.sh linted.sh tests program.py rows.sh acl_rows.py memory.sh unbuffered.py \
+    build.py links.py layers.py sources.py
+
+.PHONY: all run check test package bench install uninstall mended programs $(CHECKS:%=check-%)
 
 PREFIX ?= /usr/local
 INSTALLED = $(DESTDIR)$(PREFIX)
@@ -30,22 +35,16 @@ run: mended
 	@dev/first_answers.py --acl "$(ACL)" $(if $(SCRIPT),"$(SCRIPT)")
 
 check: programs
-	tests/layers.py
-	tests/sources.py
-	tests/linted.sh
-	tests/rows.sh
-	tests/acl_rows.py
-	tests/program.py
-	tests/memory.sh
-	tests/costs.py
+	$(MAKE) --no-print-directory --output-sync=target --jobs=$$(nproc) $(CHECKS:%=check-%)
+
+check-tests:
 	python3 -m unittest discover -s tests
-	tests/unbuffered.py
-	tests/build.py
-	tests/acl.py
-	tests/readme.py
-	tests/links.py
-	tests/package.sh
+
+check-tools:
 	python3 -m unittest discover -s tools/tests
+
+$(filter-out check-tests check-tools,$(CHECKS:%=check-%)): check-%:
+	tests/$*
 
 test: mended
 	tests/layers.py
