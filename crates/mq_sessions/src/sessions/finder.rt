@@ -12,11 +12,8 @@ use std::marker::Model;
 /// For fewer look-ups a walk is never begun.
 const MANY: usize = 16;
 
-/// So many steps of a walk cost about as much as a search.
-const STEPS: usize = 4;
-
-/// Looks up sessions one after the other: by a search each, or by a walk beside ids that ascend,
-/// where that costs less.
+/// Looks up sessions one after the other: by a search each, or where there are many by a walk beside
+/// ids that ascend, as long as that costs less.
 pub struct SessionFinder<'a> {
     sessions: &'a Sessions,
     walk: Option<Walk<'a>>,
@@ -48,13 +45,12 @@ impl<'a> SessionFinder<'a> {
     pub fn new(sessions: &'a Sessions, count: usize) -> SessionFinder<'a>
         ensures { result ≡ sessions.entry.now }
     {
-        let walks = count >= MANY && sessions.len() / STEPS <= count;
         SessionFinder {
             sessions,
-            walk: if walks {
-                Some(Walk::new(sessions))
-            } else {
+            walk: if count < MANY {
                 None
+            } else {
+                Some(Walk::new(sessions))
             },
         }
     }

@@ -12,14 +12,23 @@ use std::collections::btree_map::Iter;
 use std::marker::Model;
 use std::rc::RcStr;
 
-/// A walk over the sessions by client id. Ids that are looked up in their order take one walk over
-/// all sessions together, in place of a search each.
+/// So many steps a walk may take at first.
+const CREDIT: u32 = 16;
+
+/// So many more with each look-up: they cost half of what a search does.
+const STEPS: u32 = 4;
+
+/// A walk over the sessions by client id. Ids that are looked up in their order take one walk
+/// together, in place of a search each. Once that takes too many steps the walk has ended, and each
+/// is a search.
 pub(crate) struct Walk<'a> {
     sessions: &'a Sessions,
     // The last id that was passed.
     past: Option<&'a RcStr>,
     ahead: Option<(&'a RcStr, &'a Session)>,
     rest: Iter<'a, RcStr, Session>,
+    // How many steps it may still take; 0 once it has ended.
+    credit: u32,
 }
 
 // Opaque to callers' proofs: one step, and not one for each field (docs/explanation/gate.md).
@@ -30,6 +39,7 @@ impl Drop for Walk<'_> {
             past: _,
             ahead: _,
             rest: _,
+            credit: _,
         } = self;
     }
 }
@@ -57,18 +67,27 @@ impl<'a> Walk<'a> {
             past: None,
             ahead,
             rest,
+            credit: CREDIT,
         }
     }
 
-    /// The session of a client, if it has one. An id behind the last one is a search.
+    /// The session of a client, if it has one. An id that the walk has passed is a search.
     pub(crate) fn find(&mut self, id: &str) -> Option<&'a Session>
         ensures same { self.new ≡ self.old }
         ensures found { option_map (λ session. session_at id.now session.now) result
             ≡ session_of self.old id.now }
     {
+        if self.credit == 0 {
+            return self.sessions.get(id);
+        }
+        self.credit = self.credit.saturating_add(STEPS);
         while let Some((key, session)) = self.ahead {
             match key.as_str().cmp(id) {
                 Ordering::Less => {
+                    if self.credit == 0 {
+                        return self.sessions.get(id);
+                    }
+                    self.credit -= 1;
                     self.past = Some(key);
                     self.ahead = self.rest.next();
                 }
