@@ -34,7 +34,7 @@ def add_arguments(parser: argparse.ArgumentParser) -> None:
 
 
 def run(options: argparse.Namespace) -> int:
-    # Nothing here refers to itself, and to look for what does takes a tenth of the time and more.
+    # Next to nothing here refers to itself, and to look for what does takes up to a tenth of the time.
     gc.disable()
     files = [*options.log, options.output, options.begin]
     refuse_stdin_twice(files)
