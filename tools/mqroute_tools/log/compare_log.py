@@ -34,7 +34,7 @@ def add_arguments(parser: argparse.ArgumentParser) -> None:
 
 
 def run(options: argparse.Namespace) -> int:
-    # Next to nothing here refers to itself, and to look for what does takes up to a tenth of the time.
+    # Next to nothing here refers to itself, and to look for it takes up to a tenth of the time.
     gc.disable()
     files = [*options.log, options.output, options.begin]
     refuse_stdin_twice(files)
