@@ -9,6 +9,7 @@ import gc
 
 from ..common.files import STDIN, keep_apart, plain_file, refuse_stdin_twice
 from ..common.messages import counted, say
+from ..common.second_process import ahead
 from .comparison import Comparison
 from .log_files import Logs
 from .options import add_log_options
@@ -18,7 +19,7 @@ from .step_reader import Watcher, answered, steps
 
 def compare(watcher: Watcher, logs: Logs, output: str) -> Comparison:
     found = Comparison()
-    for step in answered(steps(watcher, logs.streams()), output):
+    for step in answered(ahead(steps(watcher, logs.streams())), output):
         found.add(step)
     return found
 

@@ -62,3 +62,18 @@ class Step:
         self.old_protocol: Set[str] = NOBODY  # receivers that speak MQTT 3
         self.renamed = False  # its publish was received under another user name
         self.flying = NOT_FLYING  # in flight: as many as may be?
+
+    def __reduce__(self) -> tuple[object, ...]:
+        """As it was read of a log, for another process."""
+        return read_step, (self.place, self.commands, self.events, self.broker.refused,
+                           self.shared, self.old_protocol, self.renamed, self.flying)
+
+
+def read_step(place: int, commands: list[Command], events: list[Event], refused: list[Key],
+              shared: Mapping[str, list[str]], old_protocol: Set[str], renamed: bool,
+              flying: Mapping[str, bool]) -> Step:
+    step = Step(place)
+    step.commands, step.events, step.broker.refused = commands, events, refused
+    step.shared, step.old_protocol, step.renamed, step.flying = (
+        shared, old_protocol, renamed, flying)
+    return step
