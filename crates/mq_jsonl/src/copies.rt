@@ -1,5 +1,6 @@
 //! The objects of the lines of copies, used again from line to line.
-ghost use Rattle.std.specs.Prelude.{◌≡◌, ◌++◌, ℕ, List, true, false, IsTrue, OnOk, OnErr, map};
+ghost use Rattle.std.specs.Prelude.{◌≡◌, ◌++◌, ℕ, List, true, false, IsTrue, IfSome, OnOk, OnErr};
+ghost use Rattle.std.specs.Prelude.{map};
 ghost use Rattle.std.specs.List.{flat_map};
 ghost use Rattle.std.specs.Option.{option_copied, option_map};
 ghost use Rattle.serde_json.specs.View.{members_view};
@@ -107,7 +108,7 @@ fn set_copy(
     }
 }
 
-// Whether two copies, of which none is for a group, differ in their clients alone.
+// Whether two copies, of which none is for a group, differ in their texts alone.
 fn is_alike(before: &Delivery, delivery: &Delivery) -> bool
     ensures { IsTrue result → IsAlike (copy_of before.now) (copy_of delivery.now) }
 {
@@ -117,43 +118,70 @@ fn is_alike(before: &Delivery, delivery: &Delivery) -> bool
         && before.retain == delivery.retain
         && before.expiry == delivery.expiry
         && before.ids == delivery.ids
-        && before.topic == delivery.topic
-        && before.payload == delivery.payload
 }
 
-// Where the object has the line of a copy that differs in its client alone, the client alone is written.
+// Writes the texts of a copy over those of one that is like it. Of one message they differ in their
+// clients alone.
+fn set_texts(
+    alloc: Global,
+    object: &mut Object,
+    line: u64,
+    before: &Delivery,
+    delivery: &Delivery,
+) -> Result<(), AllocError>
+    requires { IsBehind line (copy_of before.now) (copy_of delivery.now)
+        (members_view object.old.members.entries) }
+    ensures { OnOk result (members_view object.new.members.entries
+        ≡ copy_members line (copy_of delivery.now)) }
+{
+    let client = delivery.client.as_str();
+    let topic = delivery.topic.as_str();
+    let payload = delivery.payload.as_str();
+    let same_topic = before.topic == delivery.topic;
+    if same_topic && before.payload == delivery.payload {
+        return object.text(alloc, "client", client);
+    }
+    object.change_text(alloc, "client", before.client.as_str(), client)?;
+    if same_topic {
+        return object.text(alloc, "payload", payload);
+    }
+    object.text(alloc, "topic", topic)?;
+    object.change_text(alloc, "payload", before.payload.as_str(), payload)
+}
+
 fn set_line(
     alloc: Global,
     object: &mut Object,
     line: u64,
     delivery: &Delivery,
-    follows: bool,
+    before: Option<&Delivery>,
 ) -> Result<(), AllocError>
     requires fits { IsFor (copy_names (parts_of (copy_of delivery.now)))
         (members_view object.old.members.entries) }
-    requires follows { IsTrue follows
-        → IsBehind line (copy_of delivery.now) (members_view object.old.members.entries) }
+    requires before { IfSome (option_copied before) (λ before. IsBehind line (copy_of before)
+        (copy_of delivery.now) (members_view object.old.members.entries)) }
     ensures { OnOk result (members_view object.new.members.entries
         ≡ copy_members line (copy_of delivery.now)) }
 {
-    if follows {
-        return object.text(alloc, "client", delivery.client.as_str());
+    match before {
+        Some(before) => set_texts(alloc, object, line, before, delivery),
+        None => set_copy(alloc, object, line, delivery),
     }
-    set_copy(alloc, object, line, delivery)
 }
 
+// Where the object has the line of a copy that is like this one, only what differs is written.
 fn print_copy(
     alloc: Global,
     kept: &mut Object,
     line: u64,
     delivery: &Delivery,
-    follows: bool,
+    before: Option<&Delivery>,
     out: &mut Vec<u8>,
 ) -> Result<(), AllocError>
     requires fits { IsFor (copy_names (parts_of (copy_of delivery.now)))
         (members_view kept.old.members.entries) }
-    requires follows { IsTrue follows
-        → IsBehind line (copy_of delivery.now) (members_view kept.old.members.entries) }
+    requires before { IfSome (option_copied before) (λ before. IsBehind line (copy_of before)
+        (copy_of delivery.now) (members_view kept.old.members.entries)) }
     ensures ok { OnOk result (out.new.items ≡ out.old.items
         ++ copy_text line (copy_of delivery.now)) }
     ensures err { OnErr result (out.new.items ≡ out.old.items) }
@@ -162,11 +190,11 @@ fn print_copy(
     ensures kept { OnOk result (members_view kept.new.members.entries
         ≡ copy_members line (copy_of delivery.now)) }
 {
-    let mut object = kept.take(alloc);
-    set_line(alloc, &mut object, line, delivery, follows)?;
-    object.print(alloc, out)?;
-    *kept = object;
-    Ok(())
+    let Ok(()) = set_line(alloc, kept, line, delivery, before) else {
+        *kept = Object::new(alloc);
+        return Err(AllocError);
+    };
+    kept.print(alloc, out)
 }
 
 /// An object for copies without identifiers, interval and group, and one for those with each of these
@@ -213,11 +241,12 @@ impl Copies {
         alloc: Global,
         line: u64,
         delivery: &Delivery,
-        follows: bool,
+        before: Option<&Delivery>,
         out: &mut Vec<u8>,
     ) -> Result<(), AllocError>
-        requires { IsTrue follows → Follows line (copy_of delivery.now) self.old.plain
-            self.old.with_ids self.old.with_expiry self.old.with_group }
+        requires { IfSome (option_copied before) (λ before. Follows line (copy_of before)
+            (copy_of delivery.now) self.old.plain self.old.with_ids self.old.with_expiry
+            self.old.with_group) }
         ensures ok { OnOk result (out.new.items ≡ out.old.items
             ++ copy_text line (copy_of delivery.now)) }
         ensures err { OnErr result (out.new.items ≡ out.old.items) }
@@ -226,22 +255,22 @@ impl Copies {
             self.new.with_group) }
     {
         match (delivery.ids.is_empty(), delivery.expiry, &delivery.group) {
-            (true, None, None) => print_copy(alloc, &mut self.plain, line, delivery, follows, out),
+            (true, None, None) => print_copy(alloc, &mut self.plain, line, delivery, before, out),
             (false, None, None) => {
-                print_copy(alloc, &mut self.with_ids, line, delivery, follows, out)
+                print_copy(alloc, &mut self.with_ids, line, delivery, before, out)
             }
             (true, Some(_), None) => {
-                print_copy(alloc, &mut self.with_expiry, line, delivery, follows, out)
+                print_copy(alloc, &mut self.with_expiry, line, delivery, before, out)
             }
             (true, None, Some(_)) => {
-                print_copy(alloc, &mut self.with_group, line, delivery, follows, out)
+                print_copy(alloc, &mut self.with_group, line, delivery, before, out)
             }
-            _ => print_copy(alloc, &mut Object::new(alloc), line, delivery, false, out),
+            _ => print_copy(alloc, &mut Object::new(alloc), line, delivery, None, out),
         }
     }
 
-    /// Adds a line for each copy. Of copies that differ in their clients alone, as most of one publish do,
-    /// the client alone is written again.
+    /// Adds a line for each copy. Where the one before differs in its texts alone, as most of one
+    /// publish do in their clients, only the texts that differ are written over.
     pub fn print_all(
         &mut self,
         alloc: Global,
@@ -255,11 +284,11 @@ impl Copies {
     {
         let mut before: Option<&Delivery> = None;
         for delivery in all {
-            let follows = match before {
-                Some(before) => is_alike(before, delivery),
-                None => false,
+            let alike = match before {
+                Some(before) if is_alike(before, delivery) => Some(before),
+                _ => None,
             };
-            self.print(alloc, line, delivery, follows, out)?;
+            self.print(alloc, line, delivery, alike, out)?;
             before = Some(delivery);
         }
         Ok(())

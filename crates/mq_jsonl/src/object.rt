@@ -104,14 +104,6 @@ impl Object {
         }
     }
 
-    /// Takes the object out, and leaves one without members.
-    pub fn take(&mut self, alloc: Global) -> Object
-        ensures taken { result ≡ self.old }
-        ensures left { members_view self.new.members.entries ≡ no_members }
-    {
-        mem::replace(self, Object::new(alloc))
-    }
-
     pub fn is_empty(&self) -> bool
         ensures { IsTrue result ↔ (names_of (members_view self.now.members.entries) ≡ []) }
     {
@@ -172,6 +164,25 @@ impl Object {
         }
         let text = String::from_str(alloc, text)?;
         self.put(alloc, name, Value::String(text))
+    }
+
+    /// Writes a text over one that is there, if it is another.
+    pub fn change_text(
+        &mut self,
+        alloc: Global,
+        name: &str,
+        before: &str,
+        text: &str,
+    ) -> Result<(), AllocError>
+        requires { put name.now (string before.now) (members_view self.old.members.entries)
+            ≡ members_view self.old.members.entries }
+        ensures { OnOk result (members_view self.new.members.entries
+            ≡ put name.now (string text.now) (members_view self.old.members.entries)) }
+    {
+        if before == text {
+            return Ok(());
+        }
+        self.text(alloc, name, text)
     }
 
     pub fn text_if(

@@ -106,11 +106,11 @@ fn print_reason(
     ensures err { OnErr result (out.new.items ≡ out.old.items) }
     ensures kept { IsFor reason_names (members_view kept.new.members.entries) }
 {
-    let mut object = kept.take(alloc);
-    set_reason(alloc, &mut object, line, reason)?;
-    object.print(alloc, out)?;
-    *kept = object;
-    Ok(())
+    let Ok(()) = set_reason(alloc, kept, line, reason) else {
+        *kept = Object::new(alloc);
+        return Err(AllocError);
+    };
+    kept.print(alloc, out)
 }
 
 #[tactic(auto, unfolding(crate::specs::Printed::closing_members))]
@@ -188,11 +188,11 @@ fn print_report(
     ensures kept { IsFor (report_names (is_some report.acl_line))
         (members_view kept.new.members.entries) }
 {
-    let mut object = kept.take(alloc);
-    set_report(alloc, &mut object, line, report)?;
-    object.print(alloc, out)?;
-    *kept = object;
-    Ok(())
+    let Ok(()) = set_report(alloc, kept, line, report) else {
+        *kept = Object::new(alloc);
+        return Err(AllocError);
+    };
+    kept.print(alloc, out)
 }
 
 /// Objects whose members are set again for each line of the same names: those for copies, one for closing lines with a

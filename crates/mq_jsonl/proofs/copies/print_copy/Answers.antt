@@ -5,4 +5,4 @@ use Rattle.mq_jsonl.proofs.copies.print_copy.Goals as goal
 
 pub returns-clause-fits : goal.returns-clause-fits
 returns-clause-fits c = copy_fits c.args.line (copy_of c.args.delivery.now) _
-    (c.in_ok-print.ensures.same ∙ c.in_ok-set_line.ensures)
+    (c.print.ensures.same ∙ c.in-Ok.ensures)

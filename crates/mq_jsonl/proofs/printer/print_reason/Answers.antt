@@ -4,4 +4,4 @@ use Rattle.mq_jsonl.proofs.printer.print_reason.Goals as goal
 
 pub returns-clause-kept : goal.returns-clause-kept
 returns-clause-kept c = reason_fits c.args.line c.args.reason _
-    (c.in_ok-print.ensures.same ∙ c.in_ok-set_reason.ensures)
+    (c.print.ensures.same ∙ c.in-Ok.ensures)

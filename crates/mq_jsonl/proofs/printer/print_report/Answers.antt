@@ -5,4 +5,4 @@ use Rattle.mq_jsonl.proofs.printer.print_report.Goals as goal
 
 pub returns-clause-kept : goal.returns-clause-kept
 returns-clause-kept c = report_fits c.args.line (report_of c.args.report) _
-    (c.in_ok-print.ensures.same ∙ c.in_ok-set_report.ensures)
+    (c.print.ensures.same ∙ c.in-Ok.ensures)

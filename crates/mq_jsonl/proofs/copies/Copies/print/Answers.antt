@@ -1,5 +1,6 @@
-use Rattle.std.proofs.Common.{is_some, false, true, true≢false, arith, refl, sym, ap, subst}
+use Rattle.std.proofs.Common.{is_some, false, true, arith, refl, sym, ap, subst}
 use Rattle.std.proofs.lemmas.Grind.{common_steps}
+use Rattle.std.specs.Option.{option_copied}
 use Rattle.serde_json.specs.View.{members_view}
 use Rattle.mq_world.specs.Views.{copy_of}
 use Rattle.mq_jsonl.specs.Objects.{IsFor, Parts, parts, copy_names}
@@ -15,14 +16,15 @@ print_copy-requires-clause-fits c =
     subst (λ (p : Parts). IsFor (copy_names p)
     (members_view c.args.self.now.plain.members.entries)) (sym same) c.args.self.now.plain_names
 
-pub print_copy-requires-clause-follows : goal.print_copy-requires-clause-follows
-print_copy-requires-clause-follows c =
+pub print_copy-requires-clause-before : goal.print_copy-requires-clause-before
+print_copy-requires-clause-before c =
     let arm = c.in-true-None-None in
     let same = parts_without_ids c.args.delivery.now false false (sym arm.ensures)
     (ap is_some arm.is-1) (ap is_some arm.is-2) in
     let self = c.args.self.now in
-    λ follows. held_follows c.args.line (copy_of c.args.delivery.now) (parts false false false)
-    self.plain self.with_ids self.with_expiry self.with_group _ same refl (c.requires follows)
+    held_follows c.args.line (option_copied c.args.before) (copy_of c.args.delivery.now)
+    (parts false false false)
+    self.plain self.with_ids self.with_expiry self.with_group _ same refl c.requires
 
 pub returns-in-true-None-None-clause-kept : goal.returns-in-true-None-None-clause-kept
 returns-in-true-None-None-clause-kept c =
@@ -43,15 +45,16 @@ print_copy-requires-in-false-None-None-clause-fits c =
     subst (λ (p : Parts). IsFor (copy_names p)
     (members_view c.args.self.now.with_ids.members.entries)) (sym same) c.args.self.now.ids_names
 
-pub print_copy-requires-in-false-None-None-clause-follows :
-    goal.print_copy-requires-in-false-None-None-clause-follows
-print_copy-requires-in-false-None-None-clause-follows c =
+pub print_copy-requires-in-false-None-None-clause-before :
+    goal.print_copy-requires-in-false-None-None-clause-before
+print_copy-requires-in-false-None-None-clause-before c =
     let arm = c.in-false-None-None in
     let same = parts_with_ids c.args.delivery.now false false (sym arm.ensures)
     (ap is_some arm.is-1) (ap is_some arm.is-2) in
     let self = c.args.self.now in
-    λ follows. held_follows c.args.line (copy_of c.args.delivery.now) (parts true false false)
-    self.plain self.with_ids self.with_expiry self.with_group _ same refl (c.requires follows)
+    held_follows c.args.line (option_copied c.args.before) (copy_of c.args.delivery.now)
+    (parts true false false)
+    self.plain self.with_ids self.with_expiry self.with_group _ same refl c.requires
 
 pub returns-in-false-None-None-clause-kept : goal.returns-in-false-None-None-clause-kept
 returns-in-false-None-None-clause-kept c =
@@ -73,15 +76,16 @@ print_copy-requires-in-true-Some-None-clause-fits c =
     (members_view c.args.self.now.with_expiry.members.entries)) (sym same)
     c.args.self.now.expiry_names
 
-pub print_copy-requires-in-true-Some-None-clause-follows :
-    goal.print_copy-requires-in-true-Some-None-clause-follows
-print_copy-requires-in-true-Some-None-clause-follows c =
+pub print_copy-requires-in-true-Some-None-clause-before :
+    goal.print_copy-requires-in-true-Some-None-clause-before
+print_copy-requires-in-true-Some-None-clause-before c =
     let arm = c.in-true-Some-None in
     let same = parts_without_ids c.args.delivery.now true false (sym arm.ensures)
     (ap is_some arm.is-1) (ap is_some arm.is-2) in
     let self = c.args.self.now in
-    λ follows. held_follows c.args.line (copy_of c.args.delivery.now) (parts false true false)
-    self.plain self.with_ids self.with_expiry self.with_group _ same refl (c.requires follows)
+    held_follows c.args.line (option_copied c.args.before) (copy_of c.args.delivery.now)
+    (parts false true false)
+    self.plain self.with_ids self.with_expiry self.with_group _ same refl c.requires
 
 pub returns-in-true-Some-None-clause-kept : goal.returns-in-true-Some-None-clause-kept
 returns-in-true-Some-None-clause-kept c =
@@ -103,15 +107,16 @@ print_copy-requires-in-true-None-Some-clause-fits c =
     (members_view c.args.self.now.with_group.members.entries)) (sym same)
     c.args.self.now.group_names
 
-pub print_copy-requires-in-true-None-Some-clause-follows :
-    goal.print_copy-requires-in-true-None-Some-clause-follows
-print_copy-requires-in-true-None-Some-clause-follows c =
+pub print_copy-requires-in-true-None-Some-clause-before :
+    goal.print_copy-requires-in-true-None-Some-clause-before
+print_copy-requires-in-true-None-Some-clause-before c =
     let arm = c.in-true-None-Some in
     let same = parts_without_ids c.args.delivery.now false true (sym arm.ensures)
     (ap is_some arm.is-1) (ap is_some arm.is-2) in
     let self = c.args.self.now in
-    λ follows. held_follows c.args.line (copy_of c.args.delivery.now) (parts false false true)
-    self.plain self.with_ids self.with_expiry self.with_group _ same refl (c.requires follows)
+    held_follows c.args.line (option_copied c.args.before) (copy_of c.args.delivery.now)
+    (parts false false true)
+    self.plain self.with_ids self.with_expiry self.with_group _ same refl c.requires
 
 pub returns-in-true-None-Some-clause-kept : goal.returns-in-true-None-Some-clause-kept
 returns-in-true-None-Some-clause-kept c =
@@ -126,9 +131,9 @@ returns-in-true-None-Some-clause-kept c =
 pub print_copy-requires-in_default-clause-fits : goal.print_copy-requires-in_default-clause-fits
 print_copy-requires-in_default-clause-fits c = rw c.new.ensures (λ some. absurd (some refl))
 
-pub print_copy-requires-in_default-clause-follows :
-    goal.print_copy-requires-in_default-clause-follows
-print_copy-requires-in_default-clause-follows c = λ follows. absurd (true≢false (sym follows))
+pub print_copy-requires-in_default-clause-before :
+    goal.print_copy-requires-in_default-clause-before
+print_copy-requires-in_default-clause-before c = tt
 
 pub returns-in_default-clause-kept : goal.returns-in_default-clause-kept
 returns-in_default-clause-kept c = grind (arith, common_steps)

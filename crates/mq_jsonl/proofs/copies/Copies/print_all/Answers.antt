@@ -1,22 +1,12 @@
-use Rattle.std.proofs.Common.{◌∙◌, IsTrue, subst, sym, true≢false}
+use Rattle.std.proofs.Common.{◌∙◌, rules}
 use Rattle.std.proofs.lemmas.List.{flat_map_more, map_more, take_all}
 use Rattle.std.proofs.lemmas.Result.{err_from_is_err_and}
 use Rattle.mq_world.specs.Views.{copy_of}
 use Rattle.mq_jsonl.specs.Printed.{copy_text}
-use Rattle.mq_jsonl.proofs.BehindLemmas.{behind}
 use Rattle.mq_jsonl.proofs.copies.Copies.print_all.Goals as goal
-use Rattle.mq_jsonl.proofs.copies.Copies.print_all.Goals.{in-Some, in-None}
 
 pub print-requires : goal.print-requires
-print-requires c = λ follows.
-    let s = c.loop-delivery.self in
-    elim c.match-before.branch [
-      | in-Some w ↦ behind c.args.line (copy_of w.in-Some.before.now)
-          (copy_of c.delivery-item.result) s.plain s.with_ids s.with_expiry s.with_group
-          (w.is_alike-follows.ensures (subst IsTrue w.follows-is follows))
-          (rw w.in-Some.is at c.loop-delivery.invariant.kept)
-      | in-None w ↦ absurd (true≢false (sym (subst IsTrue w.follows-is follows)))
-    ]
+print-requires c = search rules
 
 pub returns-in_err-print-clause-err : goal.returns-in_err-print-clause-err
 returns-in_err-print-clause-err c =
