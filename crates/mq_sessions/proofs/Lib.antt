@@ -7,3 +7,4 @@ pub mod TakenLemmas
 pub mod EntryLemmas
 mod HeapLemmas
 mod WalkLemmas
+mod PendingLemmas

@@ -4,5 +4,6 @@ pub mod Queue
 pub mod Dues
 pub mod Ends
 pub mod Near
+pub mod Pending
 pub mod Resumed
 pub mod Walks

@@ -22,6 +22,7 @@ ghost use Rattle.mq_world.specs.Sessions.{left_by, has_ended, is_among};
 ghost use Rattle.mq_sessions.specs.Resumed.{copies_if_resumed};
 ghost use Rattle.mq_sessions.specs.Queue.{queue_one, queue_all};
 ghost use Rattle.mq_sessions.specs.Near.{AllReached};
+ghost use Rattle.mq_sessions.specs.Pending.{AreAscending, Joins};
 ghost use Rattle.mq_world.specs.Views.{copy_of};
 ghost use Rattle.mq_sessions.specs.Views.{session_in};
 
@@ -29,12 +30,14 @@ mod disconnection;
 mod end_heap;
 mod ends;
 pub(crate) mod finder;
+mod pending;
 pub(crate) mod queue;
 pub(crate) mod queued;
 mod resume;
 pub(crate) mod session;
 mod walk;
 
+use crate::sessions::pending::{Pending, can_walk};
 use crate::sessions::queued::QueuedCopy;
 use crate::sessions::session::Session;
 use disconnection::disconnect;
@@ -268,9 +271,31 @@ impl Sessions {
         ensures ordered { IsStrictlySortedBy session_cmp self.old }
     {
         learn_order(&self.by_id);
+        if can_walk(all.as_slice(), self.by_id.len()) {
+            return self.queue_beside(limit, all);
+        }
         for queued_copy in all {
             self.queue(limit, queued_copy);
         }
+    }
+
+    // The same by one walk over the sessions.
+    fn queue_beside(&mut self, limit: u32, all: Vec<QueuedCopy>)
+        requires { AreAscending (map queue_item_of all.items) }
+        ensures { self.new ≡ queue_all limit (map queue_item_of all.items) self.old }
+    {
+        let mut pending = Pending::new(all);
+        self.by_id.retain(
+            move |id, session|
+                ensures { Joins limit pending.entry (rc_str_bytes id.now) result session.old
+                    session.new pending.exit }
+            {
+                if let Some(first) = pending.pass(id.as_str()) {
+                    session.queue(limit, first.copies);
+                }
+                true
+            },
+        );
     }
 }
 
