@@ -1,17 +1,18 @@
 -- The deadlines of waiting copies stay in reach of an expiry interval.
 use Rattle.std.proofs.Common.{ℕ, ◌+◌, ◌<◌, ◌≤◌, ◌^◌, Bool, true, false, List, [], ◌∷◌, map, Option}
-use Rattle.std.proofs.Common.{Some, None, arith, if◌then◌else◌}
+use Rattle.std.proofs.Common.{Some, None, arith, if◌then◌else◌, ◌≡◌, cond, sym, subst}
 use Rattle.std.specs.Option.{IfSome, option_map_or}
 use Rattle.std.specs.List.{filter, AllByRecursion}
 use Rattle.mq_acl.specs.AccessLists.{AccessList}
 use Rattle.mq_world.specs.Lists.{Text, with_row}
 use Rattle.mq_world.specs.World.{Session, Away, Subscription, Message, session_cmp, has_id}
 use Rattle.mq_world.specs.Clock.{deadline_of}
-use Rattle.mq_world.specs.Sessions.{left_by, session_end}
+use Rattle.mq_world.specs.Sessions.{left_by, session_end, session_of}
 use Rattle.mq_world.specs.Waiting.{waiting_copy, waiting_after, with_waiting}
 use Rattle.mq_sessions.specs.Near.{IsReached, AreReached, AllReached}
 use Rattle.mq_world.proofs.OrderLemmas.{session_total, all_weaker, all_filtered, all_append}
 use Rattle.mq_world.proofs.OrderLemmas.{all-with_row}
+use Rattle.mq_world.proofs.Splits.{some_same}
 
 abbrev Reaches : ℕ → Session → Type 0
 Reaches moment session = AreReached moment session.waiting
@@ -34,6 +35,20 @@ reached-later moment later q sessions h reached =
 pub reached-filter : (moment : ℕ) (q : Session → Bool) (sessions : List Session)
     → AllReached moment sessions → AllReached moment (filter q sessions)
 reached-filter moment q sessions reached = all_filtered (Reaches moment) q sessions reached
+
+-- what is in reach of all is in reach of the session that is found
+pub reached-found : (moment : ℕ) (id : Text) (found : Session) (sessions : List Session)
+    → Some found ≡ session_of sessions id → AllReached moment sessions
+    → AreReached moment found.waiting
+reached-found moment id found [] is reached = cc
+reached-found moment id found (s ∷ ss) is reached =
+    by (has_id id s) is (λ later. reached-found moment id found ss later reached.1)
+  where
+    by : (b : Bool) → Some found ≡ cond b (Some s) (session_of ss id)
+        → (Some found ≡ session_of ss id → AreReached moment found.waiting)
+        → AreReached moment found.waiting
+    by true e later = subst (Reaches moment) (sym (some_same e)) reached.0
+    by false e later = later e
 
 -- a session in reach joins others in reach
 pub reached-with_row : (moment : ℕ) (session : Session) (sessions : List Session)

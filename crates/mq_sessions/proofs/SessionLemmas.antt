@@ -1,6 +1,6 @@
 -- The sessions as a map from ids.
 use Rattle.std.proofs.Common.{◌≡◌, ℕ, Bool, true, false, not, List, [], ◌∷◌, map, cond, Some, None}
-use Rattle.std.proofs.Common.{refl, sym, ◌∙◌, ap, subst}
+use Rattle.std.proofs.Common.{refl, sym, ◌∙◌, ap}
 use Rattle.std.specs.Rc.{rc_str_bytes}
 use Rattle.std.specs.declared.cmp.Ordering.TheVariants.{Less, Equal}
 use Rattle.std.specs.Ordering.{is_eq, nat_cmp}
@@ -18,8 +18,7 @@ use Rattle.mq_world.specs.World as world
 use Rattle.mq_world.specs.World.{has_id, session_cmp}
 use Rattle.mq_world.specs.Sessions.{session_of}
 use Rattle.mq_sessions.specs.Queue.{edit_session}
-use Rattle.mq_sessions.specs.Near.{AreReached, AllReached}
-use Rattle.mq_sessions.specs.Views.{session_at, session_in, waiting_of}
+use Rattle.mq_sessions.specs.Views.{session_at, session_in}
 use Rattle.mq_sessions.specs.declared.sessions.session.Session.{Session}
 use Rattle.mq_world.proofs.TextKeys.{finds, finds-is, key-is, apart}
 use Rattle.mq_world.proofs.ListLemmas.{filter-same, map-filter, map-insert_entry}
@@ -45,20 +44,6 @@ found-is bs (e ∷ es) =
           let other : has_id bs (session_in e) ≡ false = sym (finds-is bs e.0) ∙ h in
           rw other (found-is bs es))
     ]) refl
-
--- what is in reach of all is in reach of the one that is found
-pub found-reached : (moment : ℕ) (bs : List ℕ) (u : Session) (es : List Entry)
-    → Some u ≡ lookup (finds bs) es → AllReached moment (map session_in es)
-    → AreReached moment (map waiting_of u.waiting)
-found-reached moment bs u [] l h = cc
-found-reached moment bs u (e ∷ es) l h =
-    let P : Bool → Type 0 = λ b. Some u ≡ cond b (Some e.1) (lookup (finds bs) es)
-    → AreReached moment (map waiting_of u.waiting) in
-    (elim (finds bs e.0) as P [
-      | true ↦ λ k. (let same : e.1 ≡ u = cc in
-          subst (λ (v : Session). AreReached moment (map waiting_of v.waiting)) same h.0)
-      | false ↦ λ k. found-reached moment bs u es k h.1
-    ]) l
 
 -- to remove the entry that bytes find is to leave out the session of that client
 pub removed-is : (bs : List ℕ) (es : List Entry) → IsStrictlySortedBy key_cmp (keys_of es)

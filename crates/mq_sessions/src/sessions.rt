@@ -19,6 +19,7 @@ ghost use Rattle.mq_world.specs.Lists.{with_row};
 ghost use Rattle.mq_world.specs.World.{has_id, session_cmp};
 ghost use Rattle.mq_world.specs.Sessions.{new_session, session_of, is_connected, user_of, outlives};
 ghost use Rattle.mq_world.specs.Sessions.{left_by, has_ended, is_among};
+ghost use Rattle.mq_world.specs.Waiting.{waiting_for};
 ghost use Rattle.mq_sessions.specs.Resumed.{copies_if_resumed};
 ghost use Rattle.mq_sessions.specs.Queue.{queue_one, queue_all};
 ghost use Rattle.mq_sessions.specs.Near.{AllReached};
@@ -44,6 +45,7 @@ use disconnection::disconnect;
 use end_heap::Ends;
 use ends::{drop_stale_ends, push_end, reserve_ends};
 use mq_world::{Clock, Delivery};
+use resume::move_copies;
 use std::alloc::{AllocError, Global};
 use std::collections::BTreeMap;
 use std::collections::btree_map::Iter;
@@ -164,51 +166,72 @@ impl Sessions {
         self.by_id.iter()
     }
 
-    /// The copies that waited for a client that connects, with what is left of their intervals, if
-    /// it resumes its session.
-    pub fn resumed_copies(
-        &self,
+    // How many copies wait for a client.
+    fn waiting_count(&self, id: &str) -> usize
+        ensures { result ≡ length (waiting_for self.now id.now) }
+    {
+        match self.by_id.get(id) {
+            None => 0,
+            Some(session) => session.waiting.len(),
+        }
+    }
+
+    /// Adds the session of a client that connects, in place of an older one. Gives the copies that
+    /// waited there, with what is left of their intervals, if that is resumed.
+    pub fn start(
+        &mut self,
         alloc: Global,
         clock: Clock,
-        id: &str,
+        id: RcStr,
+        user: Option<String>,
+        interval: u32,
         clean: bool,
     ) -> Result<Option<Vec<Delivery>>, AllocError>
-        requires { AllReached clock.moment self.now }
-        ensures { IfOk result (λ copies. option_map (λ list. map copy_of list.items) copies
-            ≡ copies_if_resumed clock.moment self.now id.now clean) }
+        requires { AllReached clock.moment self.old }
+        ensures resumed { IfOk result (λ copies. option_map (λ list. map copy_of list.items) copies
+            ≡ copies_if_resumed clock.moment self.old (rc_str_bytes id) clean) }
+        ensures ok { OnOk result (self.new
+            ≡ with_row session_cmp (new_session (rc_str_bytes id) (option_map string_bytes user)
+            interval) self.old) }
+        ensures err { OnErr result (self.new ≡ self.old) }
     {
-        if clean {
-            return Ok(None);
-        }
-        let Some(session) = self.by_id.get(id) else {
+        let count = if clean {
+            0
+        } else {
+            self.waiting_count(id.as_str())
+        };
+        let mut copies = Vec::with_capacity(alloc, count)?;
+        let Some(older) = self.insert(alloc, id, user, interval)? else {
             return Ok(None);
         };
-        if !session.outlives_connection() {
+        if clean || !older.outlives_connection() {
             return Ok(None);
         }
-        let copies = resume::resumed_copies(alloc, clock, &session.waiting)?;
+        move_copies(clock, older.into_waiting(), &mut copies);
         Ok(Some(copies))
     }
 
-    /// Adds the session of a client that connects, in place of an older one.
+    /// Adds the session of a client that connects, in place of an older one, and gives that.
     pub fn insert(
         &mut self,
         alloc: Global,
         id: RcStr,
         user: Option<String>,
         interval: u32,
-    ) -> Result<(), AllocError>
+    ) -> Result<Option<Session>, AllocError>
         ensures ok { OnOk result (self.new
             ≡ with_row session_cmp (new_session (rc_str_bytes id) (option_map string_bytes user)
             interval) self.old) }
+        ensures older { IfOk result (λ older. option_map (session_at (rc_str_bytes id)) older
+            ≡ session_of self.old (rc_str_bytes id)) }
         ensures err { OnErr result (self.new ≡ self.old) }
     {
         let kept = id.clone()?;
         reserve_ends(alloc, &mut self.ends, &self.by_id)?;
         let session = Session::new(alloc, kept, user, interval);
-        self.by_id.insert(id, session)?;
+        let older = self.by_id.insert(id, session)?;
         drop_stale_ends(&mut self.ends, &self.by_id);
-        Ok(())
+        Ok(older)
     }
 
     /// The connection of a client ends, if there is one, and its session stays.

@@ -15,7 +15,7 @@ use std::alloc::{AllocError, Global};
 use std::rc::RcStr;
 
 /// Puts a new session of the client in the place of its older one, and gives the copies that waited
-/// there, if it is resumed. They are made first: the new session takes their place too.
+/// there, if it is resumed.
 pub(crate) fn start_session(
     sessions: &mut Sessions,
     alloc: Global,
@@ -34,7 +34,5 @@ pub(crate) fn start_session(
 {
     let id = RcStr::from_str(alloc, client)?;
     let user = copied(alloc, user)?;
-    let resumed = sessions.resumed_copies(alloc, clock, client, clean)?;
-    sessions.insert(alloc, id, user, session_expiry)?;
-    Ok(resumed)
+    sessions.start(alloc, clock, id, user, session_expiry, clean)
 }

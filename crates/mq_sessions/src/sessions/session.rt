@@ -50,6 +50,16 @@ impl Drop for Waiting {
     }
 }
 
+impl Waiting {
+    /// The copy, and its deadline if it has one.
+    pub(crate) fn into_parts(self) -> (Delivery, Option<u64>)
+        ensures { result ≡ (self.copy, self.deadline) }
+    {
+        let Waiting { copy, deadline } = self;
+        (copy, deadline)
+    }
+}
+
 /// What is known of a client.
 pub struct Session {
     pub user: Option<String>,
@@ -151,6 +161,19 @@ impl Session {
         } else {
             Fate::Dropped
         }
+    }
+
+    /// The copies that wait, the first one first.
+    pub(crate) fn into_waiting(self) -> LinkedList<Waiting>
+        ensures { result ≡ self.waiting }
+    {
+        let Session {
+            user: _,
+            interval: _,
+            presence: _,
+            waiting,
+        } = self;
+        waiting
     }
 
     /// One more copy waits, behind the others, if there is a place for it. Who was found to have room has
