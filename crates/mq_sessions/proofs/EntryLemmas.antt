@@ -27,7 +27,8 @@ use Rattle.mq_sessions.specs.declared.sessions.session.Session as code
 use Rattle.mq_sessions.proofs.SessionLemmas.{found-is}
 use Rattle.mq_world.proofs.TextKeys.{finds}
 
-key-same : (k y : Key) → key_cmp k y ≡ Equal → rc_str_bytes k ≡ rc_str_bytes y
+-- keys that tie have the same text
+pub key-same : (k y : Key) → key_cmp k y ≡ Equal → rc_str_bytes k ≡ rc_str_bytes y
 key-same k y h =
     (bytes_eq-Decides (rc_str_bytes k) (rc_str_bytes y)).0
     (sym (is_eq-slice_cmp (rc_str_bytes k) (rc_str_bytes y)) ∙ ap is_eq h)

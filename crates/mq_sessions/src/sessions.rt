@@ -43,7 +43,7 @@ use crate::sessions::queued::QueuedCopy;
 use crate::sessions::session::Session;
 use disconnection::disconnect;
 use end_heap::Ends;
-use ends::{drop_stale_ends, push_end, reserve_ends};
+use ends::{drop_stale_ends, drop_stale_ends_if, push_end, reserve_ends};
 use mq_world::{Clock, Delivery};
 use resume::move_copies;
 use std::alloc::{AllocError, Global};
@@ -228,9 +228,10 @@ impl Sessions {
     {
         let kept = id.clone()?;
         reserve_ends(alloc, &mut self.ends, &self.by_id)?;
+        let concerned = self.ends.begins_with(id.as_str());
         let session = Session::new(alloc, kept, user, interval);
         let older = self.by_id.insert(id, session)?;
-        drop_stale_ends(&mut self.ends, &self.by_id);
+        drop_stale_ends_if(concerned, &mut self.ends, &self.by_id);
         Ok(older)
     }
 
@@ -252,8 +253,9 @@ impl Sessions {
     {
         // Learns that the ids are in order.
         let _count = self.by_id.len();
+        let concerned = self.ends.begins_with(id);
         let _ = self.by_id.remove(id);
-        drop_stale_ends(&mut self.ends, &self.by_id);
+        drop_stale_ends_if(concerned, &mut self.ends, &self.by_id);
     }
 
     /// Takes out a session that has ended, if there is one, and gives the id of its client.

@@ -1,7 +1,7 @@
 //! The index of the ends of sessions. It lists the end of each, and ends that are none any more: of
 //! clients that came back. Those go where they come first, or where a client that connects finds
 //! too little room.
-ghost use Rattle.std.specs.Prelude.{◌≡◌, ◌+◌, ◌<◌, ◌≤◌, true, length, IfOk, OnOk, IfSome};
+ghost use Rattle.std.specs.Prelude.{◌≡◌, ◌+◌, ◌<◌, ◌≤◌, true, false, length, IfOk, OnOk, IfSome};
 ghost use Rattle.std.specs.List.{list_any};
 ghost use Rattle.std.specs.Rc.{rc_str_bytes};
 ghost use Rattle.mq_sessions.specs.Dues.{Due, is_in};
@@ -39,6 +39,25 @@ pub(crate) fn drop_stale_ends(ends: &mut Ends, sessions: &BTreeMap<RcStr, Sessio
             return;
         }
         let _ = ends.pop();
+    }
+}
+
+/// The same where the first end may be none any more. Elsewhere it spares a look-up.
+pub(crate) fn drop_stale_ends_if(
+    concerned: bool,
+    ends: &mut Ends,
+    sessions: &BTreeMap<RcStr, Session>,
+)
+    requires listed { AreListed ends.old.entries (views_of sessions.now.entries) }
+    requires first { concerned ≡ false
+        → IsFirstLive ends.old.entries (views_of sessions.now.entries) }
+    ensures listed { AreListed ends.new.entries (views_of sessions.now.entries) }
+    ensures first { IsFirstLive ends.new.entries (views_of sessions.now.entries) }
+    ensures count { length ends.new.entries ≤ length ends.old.entries }
+    ensures room { ends.new.room ≡ ends.old.room }
+{
+    if concerned {
+        drop_stale_ends(ends, sessions);
     }
 }
 
