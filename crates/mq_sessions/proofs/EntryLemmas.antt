@@ -3,7 +3,9 @@ use Rattle.std.proofs.Common.{◌≡◌, ℕ, ◌+◌, ◌≤◌, Bool, true, fa
 use Rattle.std.proofs.Common.{Option, Some, None, refl, sym, ◌∙◌, ap, subst, arith}
 use Rattle.std.specs.Option.{IfSome, option_map, option_map_or}
 use Rattle.std.specs.List.{AllByRecursion}
-use Rattle.std.specs.Map.{lookup, set_value, remove_entry}
+use Rattle.std.specs.Map.{keys_of, lookup, set_value, remove_entry}
+use Rattle.std.specs.List.Sorted.{IsStrictlySortedBy}
+use Rattle.std.specs.Cmp.Lexicographic.{nat_list_cmp_total}
 use Rattle.std.specs.BTreeMap.{insert_entry}
 use Rattle.std.specs.Ordering.{is_eq, match_ordering}
 use Rattle.std.specs.Rc.{rc_str_bytes}
@@ -32,6 +34,44 @@ pub key-same : (k y : Key) → key_cmp k y ≡ Equal → rc_str_bytes k ≡ rc_s
 key-same k y h =
     (bytes_eq-Decides (rc_str_bytes k) (rc_str_bytes y)).0
     (sym (is_eq-slice_cmp (rc_str_bytes k) (rc_str_bytes y)) ∙ ap is_eq h)
+
+none_below : (k : Key) (es : List Entry)
+    → AllByRecursion (λ x. key_cmp k x ≡ Less) (keys_of es)
+    → lookup (finds (rc_str_bytes k)) es ≡ None
+none_below k [] h = refl
+none_below k (e ∷ es) h =
+    ap (λ b. cond b (Some e.1) (lookup (finds (rc_str_bytes k)) es)) (ap is_eq h.0)
+    ∙ none_below k es h.1
+
+put_set : (k : Key) (u v : code.Session) (es : List Entry)
+    → IsStrictlySortedBy key_cmp (keys_of es) → lookup (finds (rc_str_bytes k)) es ≡ Some u
+    → set_value (finds (rc_str_bytes k)) es v ≡ insert_entry key_cmp es k v
+unfolding IsStrictlySortedBy
+put_set k u v [] sorted found = cc
+put_set k u v (e ∷ es) sorted found =
+    let old : Option code.Session = lookup (finds (rc_str_bytes k)) es in
+    let set : List Entry = set_value (finds (rc_str_bytes k)) es v in
+    let P : Ordering → Type 0 = λ r. key_cmp k e.0 ≡ r → cond (is_eq r) (Some e.1) old ≡ Some u
+    → cond (is_eq r) ((e.0, v) ∷ es) (e ∷ set)
+    ≡ match_ordering r ((k, v) ∷ e ∷ es) ((e.0, v) ∷ es) (e ∷ insert_entry key_cmp es k v) in
+    (elim (key_cmp k e.0) as P [
+      | Less ↦ λ r f. (
+          let none : old ≡ None = none_below k es (all_weaker (λ x. key_cmp e.0 x ≡ Less)
+          (λ x. key_cmp k x ≡ Less)
+          (λ x h. nat_list_cmp_total.trans (rc_str_bytes k) (rc_str_bytes e.0) (rc_str_bytes x) r h)
+          (keys_of es) sorted.0) in
+          cc)
+      | Equal ↦ λ r f. refl
+      | Greater ↦ λ r f. ap (λ l. e ∷ l) (put_set k u v es sorted.1 f)
+    ]) refl found
+
+-- to set the value that a look-up finds is to put it at its key
+pub entries-put : (bs : Text) (k : Key) (u v : code.Session) (es after : List Entry)
+    → bs ≡ rc_str_bytes k → after ≡ set_value (finds bs) es v → Some u ≡ lookup (finds bs) es
+    → IsStrictlySortedBy key_cmp (keys_of es) → after ≡ insert_entry key_cmp es k v
+entries-put bs k u v es after text set found sorted =
+    set ∙ ap (λ t. set_value (finds t) es v) text
+    ∙ put_set k u v es sorted (sym (found ∙ ap (λ t. lookup (finds t) es) text))
 
 -- the one that a look-up finds is edited
 all-edited : (P Q : Entry → Type 0) (test : Key → Bool) (u v : code.Session) (es : List Entry)

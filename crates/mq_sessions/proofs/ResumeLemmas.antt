@@ -1,10 +1,10 @@
 -- A client that comes back: whether it resumes its session, and what it is sent.
 use Rattle.std.proofs.Common.{◌≡◌, ℕ, Bool, true, false, true≢false, List, [], Option, Some, None}
-use Rattle.std.proofs.Common.{if◌then◌else◌, is_some, refl, sym, ap}
+use Rattle.std.proofs.Common.{if◌then◌else◌, is_some, refl, sym, ap, ◌∙◌}
 use Rattle.std.specs.Option.{option_map_or}
 use Rattle.std.specs.List.{filter_map}
 use Rattle.mq_world.specs.Lists.{Text}
-use Rattle.mq_world.specs.World.{Session, Copy}
+use Rattle.mq_world.specs.World.{Session, Copy, Waiting}
 use Rattle.mq_world.specs.Sessions.{resumes}
 use Rattle.mq_world.specs.Waiting.{resumed_copy, waiting_for, resumed_copies}
 use Rattle.mq_sessions.specs.Resumed.{copies_if_resumed}
@@ -24,6 +24,16 @@ unfolding resumed_copies
 resumed-some moment sessions id clean e =
     let xs : List Copy = filter_map (resumed_copy moment) (waiting_for sessions id) in
     ap (λ b. if b then Some (if b then xs else []) else None) (sym e)
+
+-- the same by whether the session that was found is resumed, and by what waited there
+pub resumed-if : (moment : ℕ) (sessions : List Session) (id : Text) (clean b : Bool)
+    (waiting : List Waiting) → resumes sessions id clean ≡ b → waiting ≡ waiting_for sessions id
+    → (if b then Some (filter_map (resumed_copy moment) waiting) else None)
+    ≡ copies_if_resumed moment sessions id clean
+resumed-if moment sessions id clean true waiting e is =
+    ap (λ ws. Some (filter_map (resumed_copy moment) ws)) is
+    ∙ resumed-some moment sessions id clean e
+resumed-if moment sessions id clean false waiting e is = resumed-none moment sessions id clean e
 
 -- a client that does not resume a session is sent nothing
 pub resumed-empty : (moment : ℕ) (sessions : List Session) (id : Text) (clean : Bool)

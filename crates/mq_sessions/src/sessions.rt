@@ -19,7 +19,6 @@ ghost use Rattle.mq_world.specs.Lists.{with_row};
 ghost use Rattle.mq_world.specs.World.{has_id, session_cmp};
 ghost use Rattle.mq_world.specs.Sessions.{new_session, session_of, is_connected, user_of, outlives};
 ghost use Rattle.mq_world.specs.Sessions.{left_by, has_ended, is_among};
-ghost use Rattle.mq_world.specs.Waiting.{waiting_for};
 ghost use Rattle.mq_sessions.specs.Resumed.{copies_if_resumed};
 ghost use Rattle.mq_sessions.specs.Queue.{queue_one, queue_all};
 ghost use Rattle.mq_sessions.specs.Near.{AllReached};
@@ -45,7 +44,7 @@ use disconnection::disconnect;
 use end_heap::Ends;
 use ends::{drop_stale_ends, drop_stale_ends_if, push_end, reserve_ends};
 use mq_world::{Clock, Delivery};
-use resume::move_copies;
+use resume::restart;
 use std::alloc::{AllocError, Global};
 use std::collections::BTreeMap;
 use std::collections::btree_map::Iter;
@@ -166,16 +165,6 @@ impl Sessions {
         self.by_id.iter()
     }
 
-    // How many copies wait for a client.
-    fn waiting_count(&self, id: &str) -> usize
-        ensures { result ≡ length (waiting_for self.now id.now) }
-    {
-        match self.by_id.get(id) {
-            None => 0,
-            Some(session) => session.waiting.len(),
-        }
-    }
-
     /// Adds the session of a client that connects, in place of an older one. Gives the copies that
     /// waited there, with what is left of their intervals, if that is resumed.
     pub fn start(
@@ -195,44 +184,37 @@ impl Sessions {
             interval) self.old) }
         ensures err { OnErr result (self.new ≡ self.old) }
     {
-        let count = if clean {
-            0
-        } else {
-            self.waiting_count(id.as_str())
-        };
-        let mut copies = Vec::with_capacity(alloc, count)?;
-        let Some(older) = self.insert(alloc, id, user, interval)? else {
-            return Ok(None);
-        };
-        if clean || !older.outlives_connection() {
-            return Ok(None);
+        reserve_ends(alloc, &mut self.ends, &self.by_id)?;
+        let concerned = self.ends.begins_with(id.as_str());
+        if let Some(session) = self.by_id.get_mut(id.as_str()) {
+            let copies = restart(alloc, session, clock, id, user, interval, clean)?;
+            drop_stale_ends_if(concerned, &mut self.ends, &self.by_id);
+            return Ok(copies);
         }
-        move_copies(clock, older.into_waiting(), &mut copies);
-        Ok(Some(copies))
+        self.insert(alloc, id, user, interval)?;
+        Ok(None)
     }
 
-    /// Adds the session of a client that connects, in place of an older one, and gives that.
+    /// Adds the session of a client that connects, in place of an older one.
     pub fn insert(
         &mut self,
         alloc: Global,
         id: RcStr,
         user: Option<String>,
         interval: u32,
-    ) -> Result<Option<Session>, AllocError>
+    ) -> Result<(), AllocError>
         ensures ok { OnOk result (self.new
             ≡ with_row session_cmp (new_session (rc_str_bytes id) (option_map string_bytes user)
             interval) self.old) }
-        ensures older { IfOk result (λ older. option_map (session_at (rc_str_bytes id)) older
-            ≡ session_of self.old (rc_str_bytes id)) }
         ensures err { OnErr result (self.new ≡ self.old) }
     {
         let kept = id.clone()?;
         reserve_ends(alloc, &mut self.ends, &self.by_id)?;
         let concerned = self.ends.begins_with(id.as_str());
         let session = Session::new(alloc, kept, user, interval);
-        let older = self.by_id.insert(id, session)?;
+        self.by_id.insert(id, session)?;
         drop_stale_ends_if(concerned, &mut self.ends, &self.by_id);
-        Ok(older)
+        Ok(())
     }
 
     /// The connection of a client ends, if there is one, and its session stays.

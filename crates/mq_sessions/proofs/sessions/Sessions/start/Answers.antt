@@ -1,37 +1,160 @@
-use Rattle.std.proofs.Common.{◌≡◌, ◌∙◌, ◌++◌, [], Some, ap, false, map, not, sym, true, ◌&&◌}
+use Rattle.std.proofs.Common.{◌≡◌, ◌+◌, ◌≤◌, ◌∙◌, ◌&&◌, [], List, None, Some, arith, ap, false}
+use Rattle.std.proofs.Common.{length, map, not, rules, string_bytes, subst, sym, true}
+use Rattle.std.specs.List.{list_any}
+use Rattle.std.specs.Map.{lookup, set_value}
 use Rattle.std.specs.Option.{option_map, option_map_or}
-use Rattle.std.specs.List.{filter_map}
 use Rattle.std.specs.Rc.{rc_str_bytes}
-use Rattle.mq_world.specs.Sessions.{outlives, outlives_connection, resumes, session_of}
-use Rattle.mq_world.specs.Views.{copy_of}
-use Rattle.mq_world.specs.Waiting.{resumed_copy}
-use Rattle.mq_world.specs.World.{Session}
-use Rattle.mq_sessions.specs.Views.{session_at, view_of}
+use Rattle.std.proofs.Math.Bool.{and-false}
+use Rattle.std.proofs.lemmas.List.{length-map}
+use Rattle.std.proofs.lemmas.Map.Steps.{set_value_same}
+use Rattle.mq_world.specs.Lists.{with_row}
+use Rattle.mq_world.specs.Sessions.{new_session, outlives_connection, session_of}
+use Rattle.mq_world.specs.World.{Session, session_cmp}
+use Rattle.mq_world.proofs.ListLemmas.{on_err}
+use Rattle.mq_world.proofs.OrderLemmas.{all-with_row, session_total}
+use Rattle.mq_world.proofs.TextKeys.{finds}
+use Rattle.mq_sessions.specs.Ends.{AreIndexed, AreListed, IsListed, KeepIds, KeepsId, end_of, has_end}
+use Rattle.mq_sessions.specs.Ends.{views_of}
+use Rattle.mq_sessions.specs.Views.{session_at, session_in, sessions_of}
+use Rattle.mq_sessions.proofs.EndLemmas.{connected-most, first-stays, live-put, no-end}
+use Rattle.mq_sessions.proofs.EntryLemmas.{entries-put, ids-put, length-put}
 use Rattle.mq_sessions.proofs.ReachedLemmas.{reached-found}
-use Rattle.mq_sessions.proofs.ResumeLemmas.{resumed-some}
+use Rattle.mq_sessions.proofs.ResumeLemmas.{resumed-if, resumed-none}
+use Rattle.mq_sessions.proofs.SessionLemmas.{found-is, put-is}
 use Rattle.mq_sessions.proofs.sessions.Sessions.start.Goals as goal
 
-pub move_copies-requires-clause-reached : goal.move_copies-requires-clause-reached
-move_copies-requires-clause-reached c =
+pub restart-requires : goal.restart-requires
+restart-requires c =
     let id = rc_str_bytes c.args.id in
-    rw c.into_waiting.ensures (reached-found c.args.clock.moment id
-    (session_at id c.in-Some.older) c.args.self.now
-    (ap (option_map (session_at id)) (sym c.in-Some.is) ∙ c.in_ok-older.ensures.older) c.requires)
+    let found : Some (session_at id c.in-Some.session.now) ≡ session_of c.args.self.now id =
+    ap (option_map (session_at id)) (c.in-Some.ensures.value
+    ∙ ap (λ t. lookup (finds t) c.self.inside.by_id.entries) c.as_str-2.ensures.value)
+    ∙ found-is id c.self.inside.by_id.entries
+    ∙ ap (λ (ss : List Session). session_of ss id) c.self.view_is in
+    reached-found c.args.clock.moment id (session_at id c.in-Some.session.now) c.args.self.now
+    found c.requires
+
+-- ## Room for the copies is refused
+
+pub invariant_of-self-in_err-copies : goal.invariant_of-self-in_err-copies
+invariant_of-self-in_err-copies c =
+    let es = c.self.inside.by_id.entries in
+    let id = c.as_str-2.result.now in
+    let same = (c.get_mut.follows.holds c.restart.new.session).0
+    ∙ ap (set_value (finds id) es) c.in_err-copies.ensures.err
+    ∙ set_value_same (finds id) es c.in-Some.session.now (sym c.in-Some.ensures.value) in (
+      subst (λ l. AreIndexed c.reserve_ends.new.ends (map session_in l)) (sym same)
+          c.reserve_ends.ensures.indexed,
+      subst KeepIds (sym same) c.self.invariant.1,
+    )
+
+pub returns-in_err-copies-clause-err : goal.returns-in_err-copies-clause-err
+returns-in_err-copies-clause-err c =
+    let es = c.self.inside.by_id.entries in
+    let id = c.as_str-2.result.now in
+    let same = (c.get_mut.follows.holds c.restart.new.session).0
+    ∙ ap (set_value (finds id) es) c.in_err-copies.ensures.err
+    ∙ set_value_same (finds id) es c.in-Some.session.now (sym c.in-Some.ensures.value) in
+    on_err c.from_residual-in_err-copies.result (ap (map session_in) same ∙ c.self.view_is)
+
+-- ## The session takes the place of the older one
+
+pub drop_stale_ends_if-requires-clause-listed : goal.drop_stale_ends_if-requires-clause-listed
+drop_stale_ends_if-requires-clause-listed c =
+    let es = c.self.inside.by_id.entries in
+    let is = entries-put c.as_str-2.result.now c.args.id c.in-Some.session.now
+    c.restart.new.session es _ c.as_str-2.ensures.value
+    (c.get_mut.follows.holds c.restart.new.session).0 c.in-Some.ensures.value
+    c.in-Some.ensures.ordered in
+    let dues = c.reserve_ends.new.ends.entries in
+    let session = session_at (rc_str_bytes c.args.id) c.restart.new.session in
+    subst (AreListed dues) (sym (ap (map session_in) is
+    ∙ put-is c.args.id c.restart.new.session es c.in-Some.ensures.ordered))
+    (all-with_row session_cmp session_total (IsListed dues) session (sessions_of c.self.inside)
+    (no-end dues session (sym (ap end_of c.in_ok-copies.ensures.shown)))
+    c.reserve_ends.ensures.indexed.listed)
+
+pub drop_stale_ends_if-requires-clause-first : goal.drop_stale_ends_if-requires-clause-first
+drop_stale_ends_if-requires-clause-first c = λ other.
+    let es = c.self.inside.by_id.entries in
+    let is = entries-put c.as_str-2.result.now c.args.id c.in-Some.session.now
+    c.restart.new.session es _ c.as_str-2.ensures.value
+    (c.get_mut.follows.holds c.restart.new.session).0 c.in-Some.ensures.value
+    c.in-Some.ensures.ordered in
+    first-stays c.as_str.result.now c.reserve_ends.new.ends.entries (views_of es)
+    (views_of (c.get_mut.follows.lender c.restart.new.session).entries)
+    (sym c.begins_with-concerned.ensures ∙ other)
+    (λ due o live. subst (λ l. list_any (has_end due) (views_of l) ≡ true) (sym is)
+    (live-put c.args.id c.restart.new.session due es (rw c.as_str.ensures.value at o) live))
+    c.reserve_ends.ensures.indexed.first
+
+pub invariant_of-self-in-Some : goal.invariant_of-self-in-Some
+invariant_of-self-in-Some c =
+    let es = c.self.inside.by_id.entries in
+    let is = entries-put c.as_str-2.result.now c.args.id c.in-Some.session.now
+    c.restart.new.session es _ c.as_str-2.ensures.value
+    (c.get_mut.follows.holds c.restart.new.session).0 c.in-Some.ensures.value
+    c.in-Some.ensures.ordered in
+    let session = c.restart.new.session in
+    let keeps : KeepsId (c.args.id, session) = search rules in (
+      record {
+        listed = c.drop_stale_ends_if.ensures.listed;
+        first = c.drop_stale_ends_if.ensures.first;
+        room =
+            let after = (c.get_mut.follows.lender session).entries in
+            let count : length (views_of after) ≡ length after = length-map after session_in in
+            let more : length after ≤ length es + 1 =
+            subst (λ l. length l ≤ length es + 1) (sym is) (length-put c.args.id session es) in
+            omega (
+              arith,
+              connected-most (views_of after),
+              c.in_ok-reserve_ends.ensures.ok,
+              c.drop_stale_ends_if.ensures.count,
+              c.drop_stale_ends_if.ensures.room,
+            );
+      },
+      subst KeepIds (sym is) (ids-put c.args.id session es keeps c.self.invariant.1),
+    )
+
+pub returns-in-Some-clause-resumed : goal.returns-in-Some-clause-resumed
+returns-in-Some-clause-resumed c =
+    let id = rc_str_bytes c.args.id in
+    let found : Some (session_at id c.in-Some.session.now) ≡ session_of c.args.self.now id =
+    ap (option_map (session_at id)) (c.in-Some.ensures.value
+    ∙ ap (λ t. lookup (finds t) c.self.inside.by_id.entries) c.as_str-2.ensures.value)
+    ∙ found-is id c.self.inside.by_id.entries
+    ∙ ap (λ (ss : List Session). session_of ss id) c.self.view_is in
+    let stays = ap (λ s. option_map_or outlives_connection s false) (sym found) in
+    c.in_ok-copies.ensures.resumed
+    ∙ resumed-if c.args.clock.moment c.args.self.now id c.args.clean _ _
+    (ap (λ b. not c.args.clean && b) stays)
+    (ap (λ s. option_map_or (λ (session : Session). session.waiting) s []) found)
+
+pub returns-in-Some-clause-ok : goal.returns-in-Some-clause-ok
+returns-in-Some-clause-ok c =
+    let id = rc_str_bytes c.args.id in
+    let es = c.self.inside.by_id.entries in
+    let is = entries-put c.as_str-2.result.now c.args.id c.in-Some.session.now
+    c.restart.new.session es _ c.as_str-2.ensures.value
+    (c.get_mut.follows.holds c.restart.new.session).0 c.in-Some.ensures.value
+    c.in-Some.ensures.ordered in
+    ap (map session_in) is
+    ∙ put-is c.args.id c.restart.new.session es c.in-Some.ensures.ordered
+    ∙ ap (λ (s : Session). with_row session_cmp (record s { id = id }) (sessions_of c.self.inside))
+    c.in_ok-copies.ensures.shown
+    ∙ ap (λ (ss : List Session). with_row session_cmp
+    (new_session id (option_map string_bytes c.args.user) c.args.interval) ss) c.self.view_is
+
+-- ## There was none
 
 pub returns-clause-resumed : goal.returns-clause-resumed
 returns-clause-resumed c =
     let id = rc_str_bytes c.args.id in
-    let moment = c.args.clock.moment in
-    let found : Some (session_at id c.in-Some.older) ≡ session_of c.args.self.now id =
-    ap (option_map (session_at id)) (sym c.in-Some.is) ∙ c.in_ok-older.ensures.older in
-    let stays : outlives c.args.self.now id ≡ true =
-    ap (λ s. option_map_or outlives_connection s false) (sym found)
-    ∙ sym c.outlives_connection.ensures ∙ c.if-not-outlives_connection.false in
-    let resumed : resumes c.args.self.now id c.args.clean ≡ true =
-    ap (λ b. not b && outlives c.args.self.now id) c.if-clean-2.false ∙ stays in
-    ap (λ l. Some l) (rw c.into_waiting.ensures at c.move_copies.ensures
-    ∙ ap (λ l. map copy_of l ++ filter_map (resumed_copy moment) (view_of c.in-Some.older).waiting)
-    c.in_ok-copies.ensures.items
-    ∙ ap (λ s. filter_map (resumed_copy moment)
-    (option_map_or (λ (session : Session). session.waiting) s [])) found)
-    ∙ resumed-some moment c.args.self.now id c.args.clean resumed
+    let none : None ≡ session_of c.args.self.now id =
+    ap (option_map (session_at id)) (c.in_default.ensures.value
+    ∙ ap (λ t. lookup (finds t) c.self.inside.by_id.entries) c.as_str-2.ensures.value)
+    ∙ found-is id c.self.inside.by_id.entries
+    ∙ ap (λ (ss : List Session). session_of ss id) c.self.view_is in
+    resumed-none c.args.clock.moment c.args.self.now id c.args.clean
+    (ap (λ s. not c.args.clean && option_map_or outlives_connection s false) (sym none)
+    ∙ and-false (not c.args.clean))
