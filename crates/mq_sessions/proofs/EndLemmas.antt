@@ -12,30 +12,23 @@ use Rattle.std.proofs.lemmas.Bool.Decides.{nat_tests}
 use Rattle.std.proofs.lemmas.Bool.{and_parts, and_right}
 use Rattle.std.proofs.Math.Bool.{or-true, or-false, and-true}
 use Rattle.mq_sessions.specs.Dues.{Due, Dues, first_of, same_due, is_in, AreWith, AreRest}
-use Rattle.mq_world.specs.Keys.{Key, key_cmp}
-use Rattle.mq_world.specs.World.{Session, Connected, Away, has_id}
-use Rattle.mq_world.specs.Lists.{Text, same_text}
+use Rattle.mq_world.specs.Keys.{key_cmp}
+use Rattle.mq_world.specs.World.{Session, Connected, Away, has_id, session_cmp}
+use Rattle.mq_world.specs.Lists.{Text, same_text, with_row}
 use Rattle.mq_world.specs.Clock.{is_over}
 use Rattle.mq_world.specs.Sessions.{connected, has_ended, is_present}
 use Rattle.mq_world.specs.Waiting.{has_place, with_waiting}
 use Rattle.mq_world.proofs.BoolLemmas.{pick}
 use Rattle.mq_world.proofs.ListLemmas.{none-any, length-filter-most, none_again}
-use Rattle.mq_world.proofs.ListLemmas.{list_any-map, list_any-same}
 use Rattle.mq_world.proofs.SameLemmas.{filter-swap}
-use Rattle.mq_world.proofs.OrderLemmas.{all_weaker, all_filtered}
-use Rattle.mq_world.proofs.OrderLemmas.{same_text-is, same_text-itself, text_flip}
-use Rattle.std.specs.BTreeMap.{insert_entry}
-use Rattle.std.specs.Ordering.{match_ordering}
-use Rattle.std.specs.declared.cmp.Ordering.{Ordering}
-use Rattle.std.specs.declared.cmp.Ordering.TheVariants.{Less, Equal, Greater}
-use Rattle.std.specs.Rc.{rc_str_bytes}
+use Rattle.mq_world.proofs.OrderLemmas.{all_weaker, all_filtered, all-with_row, session_total}
+use Rattle.mq_world.proofs.OrderLemmas.{same_text-itself}
 use Rattle.mq_sessions.specs.Queue.{QueueItem, queue_copies, edit_session, queue_one}
-use Rattle.mq_sessions.specs.Ends.{end_of, has_end, IsListed, AreListed, IsFirstLive, AreIndexed}
+use Rattle.mq_sessions.specs.Ends.{end_of, has_end, IsListed, AreListed, AreIndexed}
 use Rattle.mq_sessions.specs.Ends.{Entry, views_of}
 use Rattle.mq_sessions.specs.Views.{session_in, view_of}
 use Rattle.mq_sessions.specs.declared.sessions.session.Session as code
 use Rattle.mq_world.proofs.TextKeys.{apart, finds, finds-is}
-use Rattle.mq_sessions.proofs.EntryLemmas.{key-same}
 use Rattle.mq_sessions.proofs.ReachedLemmas.{all_mapped}
 
 -- ## Tests
@@ -131,71 +124,6 @@ any-found end bs (e ∷ es) s =
           ∙ any-found end bs es s.1)
     ]) refl
 
--- ## The first end
-
--- the first end is a session's still, if it is of another client than the one whose session changes
-pub first-stays : (id : Text) (dues : List Due) (before after : List Session)
-    → option_map_or (λ due. same_text due.1 id) (first_of dues) false ≡ false
-    → ((due : Due) → same_text due.1 id ≡ false → list_any (has_end due) before ≡ true
-    → list_any (has_end due) after ≡ true)
-    → IsFirstLive dues before → IsFirstLive dues after
-first-stays id [] before after other stays live = tt
-first-stays id (due ∷ dues) before after other stays live = stays due other live
-
--- an end of a session stays one when another client's session is put
-pub live-put : (k : Key) (v : code.Session) (due : Due) (es : List Entry)
-    → same_text due.1 (rc_str_bytes k) ≡ false
-    → list_any (has_end due) (views_of es) ≡ true
-    → list_any (has_end due) (views_of (insert_entry key_cmp es k v)) ≡ true
-live-put k v due [] other live = cc
-live-put k v due (e ∷ es) other live =
-    let any : Bool = list_any (has_end due) (views_of es) in
-    let P : Ordering → Type 0 = λ r. key_cmp k e.0 ≡ r
-    → list_any (has_end due) (views_of (match_ordering r ((k, v) ∷ e ∷ es) ((e.0, v) ∷ es)
-    (e ∷ insert_entry key_cmp es k v))) ≡ true in
-    (elim (key_cmp k e.0) as P [
-      | Less ↦ λ r. ap (λ b. has_end due (session_in (k, v)) || b) live
-          ∙ or-true (has_end due (session_in (k, v)))
-      | Equal ↦ λ r. (
-          let same : same_text due.1 (rc_str_bytes e.0) ≡ false =
-          ap (same_text due.1) (sym (key-same k e.0 r)) ∙ other in
-          let gone : has_end due (session_in e) ≡ false =
-          ends-other due (session_in e) (text_flip (rc_str_bytes e.0) due.1 ∙ same) in
-          ap (λ b. has_end due (session_in (e.0, v)) || b) (or_right _ any gone live)
-          ∙ or-true (has_end due (session_in (e.0, v))))
-      | Greater ↦ λ r. by (has_end due (session_in e)) live (live-put k v due es other)
-    ]) refl
-  where
-    by : (b : Bool) → (b || list_any (has_end due) (views_of es)) ≡ true
-        → (list_any (has_end due) (views_of es) ≡ true
-        → list_any (has_end due) (views_of (insert_entry key_cmp es k v)) ≡ true)
-        → (b || list_any (has_end due) (views_of (insert_entry key_cmp es k v))) ≡ true
-    by true h later = refl
-    by false h later = later h
-
--- or removed
-pub live-removed : (id : Text) (due : Due) (ss : List Session) → same_text due.1 id ≡ false
-    → list_any (has_end due) ss ≡ true
-    → list_any (has_end due) (filter (λ s. not (has_id id s)) ss) ≡ true
-live-removed id due [] other live = cc
-live-removed id due (s ∷ ss) other live =
-    by (has_id id s) (has_end due s) refl refl live (live-removed id due ss other)
-  where
-    rest : List Session
-    rest = filter (λ s. not (has_id id s)) ss
-
-    by : (x y : Bool) → has_id id s ≡ x → has_end due s ≡ y
-        → (y || list_any (has_end due) ss) ≡ true
-        → (list_any (has_end due) ss ≡ true → list_any (has_end due) rest ≡ true)
-        → list_any (has_end due) (cond (not x) (s ∷ rest) rest) ≡ true
-    by true true own ends h later =
-        let named : s.id ≡ due.1 = same_text-is s.id due.1 (ends-id due s ends) in
-        absurd (true≢false (sym own ∙ ap (λ t. same_text t id) named ∙ other))
-    by true false own ends h later = later h
-    by false true own ends h later = ap (λ b. b || list_any (has_end due) rest) ends
-    by false false own ends h later =
-        ap (λ b. b || list_any (has_end due) rest) ends ∙ later h
-
 -- ## What is listed
 
 listed-step : (dues more : List Due) → ((d : Due) → is_in d dues ≡ true → is_in d more ≡ true)
@@ -286,6 +214,12 @@ pub no-end : (dues : List Due) (s : Session) → None ≡ end_of s → IsListed 
 no-end dues s h =
     subst (λ (o : Option ℕ). IfSome o (λ end. is_in (end, s.id) dues ≡ true)) h tt
 
+-- nor does one that is put among those whose ends are listed
+pub listed-put : (dues : List Due) (s : Session) (ss : List Session) → None ≡ end_of s
+    → AreListed dues ss → AreListed dues (with_row session_cmp s ss)
+listed-put dues s ss h listed =
+    all-with_row session_cmp session_total (IsListed dues) s ss (no-end dues s h) listed
+
 -- a session is listed if its end, with its id, is in the index
 pub one-end : (end : ℕ) (id : Text) (dues : List Due) (s : Session) → Some end ≡ end_of s
     → id ≡ s.id → is_in (end, id) dues ≡ true → IsListed dues s
@@ -331,21 +265,11 @@ pub indexed-queued : (limit : ℕ) (b : QueueItem) (index : Dues) (ss : List Ses
 indexed-queued limit b index ss h = record {
   listed = all_mapped (IsListed index.entries) f
       (λ s k. queued-as limit b (IsListed index.entries) (λ t i. i) s k) ss h.listed;
-  first = first index.entries h.first;
   room = (let same = count ss in omega (arith, h.room));
 }
   where
     f : Session → Session
     f = edit_session (queue_copies limit b.1) b.0
-
-    ends : (due : Due) (s : Session) → has_end due (f s) ≡ has_end due s
-    ends due s = queued-as limit b (λ t. has_end due t ≡ has_end due s) (λ t i. i) s refl
-
-    first : (dues : List Due) → IsFirstLive dues ss → IsFirstLive dues (queue_one limit b ss)
-    first [] live = tt
-    first (d ∷ ds) live =
-        list_any-map f (has_end d) ss
-        ∙ list_any-same (λ s. has_end d (f s)) (has_end d) (ends d) ss ∙ live
 
     count : (xs : List Session)
         → length (connected (queue_one limit b xs)) ≡ length (connected xs)

@@ -4,7 +4,7 @@ use Rattle.std.proofs.Common.{None}
 use Rattle.std.proofs.Common.{refl, sym, ◌∙◌, ap, subst, drop, length, suc, arith, ◌++◌, ◌-◌, ◌≤◌}
 use Rattle.std.proofs.Common.{◌<◌, true≢false}
 use Rattle.std.proofs.Common.{is_ge, get_or, take}
-use Rattle.std.proofs.lemmas.List.{take_all}
+use Rattle.std.proofs.lemmas.List.{map-id, take_all}
 use Rattle.std.specs.declared.cmp.Ordering.{Ordering}
 use denote.Ref.{Bor}
 use Rattle.std.specs.Cmp.Lexicographic.{nat_list_cmp_total}
@@ -34,6 +34,7 @@ use Rattle.mq_sessions.specs.declared.sessions.session.Session as code
 use Rattle.mq_sessions.proofs.EndLemmas.{indexed-queued}
 use Rattle.mq_sessions.proofs.QueueLemmas.{queued-id}
 use Rattle.mq_sessions.proofs.SessionLemmas.{sorted-is}
+use Rattle.mq_sessions.proofs.WalkLemmas.{lower_differs}
 
 -- one before the first of those that ascend is before all of them
 pub led : (a b : QueueItem) (items : List QueueItem) → item_cmp a b ≡ Less
@@ -115,9 +116,6 @@ none_found : (p : QueueItem → Bool) (items : List QueueItem)
 none_found p [] h = refl
 none_found p (b ∷ items) h = rw h.0 (none_found p items h.1)
 
-below_differs : (a b : Text) → text_cmp a b ≡ Less → same_text a b ≡ false
-below_differs a b h = sym (is_eq-slice_cmp a b) ∙ ap is_eq h
-
 -- what is found for a client among these, and what is left of them behind it
 abbrev pub Passes : Text → List QueueItem → Option QueueItem → List QueueItem → Type 0
 Passes id items found left = (find (is_for id) items ≡ found) × (filter (is_beyond id) items ≡ left)
@@ -125,7 +123,7 @@ Passes id items found left = (find (is_for id) items ≡ found) × (filter (is_b
 pub passed_before : (id : Text) (b : QueueItem) (items : List QueueItem) → text_cmp b.0 id ≡ Less
     → Passes id (b ∷ items) (find (is_for id) items) (filter (is_beyond id) items)
 passed_before id b items h =
-    let other : is_for id b ≡ false = text_flip id b.0 ∙ below_differs b.0 id h in
+    let other : is_for id b ≡ false = text_flip id b.0 ∙ lower_differs b.0 id h in
     let here : is_beyond id b ≡ false =
     ap is_lt (nat_list_cmp_total.antisymm id b.0 ∙ ap ordering_reverse h) in
     (rw other refl, rw here refl)
@@ -158,7 +156,7 @@ passed_beyond id b items h s =
           (λ t k. nat_list_cmp_total.trans id b.0 t.0 less k) items s.0,
     ) in (
       none_found (is_for id) (b ∷ items) (all_weaker (λ t. text_cmp id t.0 ≡ Less)
-          (λ t. is_for id t ≡ false) (λ t k. below_differs id t.0 k) (b ∷ items) all),
+          (λ t. is_for id t ≡ false) (λ t k. lower_differs id t.0 k) (b ∷ items) all),
       all_stay (is_beyond id) (b ∷ items) (all_weaker (λ t. text_cmp id t.0 ≡ Less)
           (λ t. is_beyond id t ≡ true) (λ t k. ap is_lt k) (b ∷ items) all),
     )
@@ -175,13 +173,9 @@ map_each : (f g h : Session → Session) → ((s : Session) → f (g s) ≡ h s)
 map_each f g h same [] = refl
 map_each f g h same (s ∷ ss) = rw (same s, map_each f g h same ss) refl
 
-map_itself : (ss : List Session) → map (λ s. s) ss ≡ ss
-map_itself [] = refl
-map_itself (s ∷ ss) = ap (λ l. s ∷ l) (map_itself ss)
-
 queued_each : (limit : ℕ) (items : List QueueItem) (ss : List Session)
     → queue_all limit items ss ≡ map (edited limit items) ss
-queued_each limit [] ss = sym (map_itself ss)
+queued_each limit [] ss = sym (map-id ss)
 queued_each limit (b ∷ items) ss =
     queued_each limit items (queue_one limit b ss)
     ∙ map_each (edited limit items) (edit_session (queue_copies limit b.1) b.0)
@@ -210,7 +204,7 @@ edited_is limit (b ∷ items) s asc =
         later t
         ∙ ap (λ o. joined limit o t) (none_found (is_for t.id) items
         (all_weaker (λ x. item_cmp b x ≡ Less) (λ x. is_for t.id x ≡ false)
-        (λ x k. ap (λ u. same_text u x.0) id ∙ below_differs b.0 x.0 k) items asc.0))
+        (λ x k. ap (λ u. same_text u x.0) id ∙ lower_differs b.0 x.0 k) items asc.0))
     by false other later = later s
 
 joined_id : (limit : ℕ) (id : Text) (o : Option QueueItem) (s : Session)

@@ -1,5 +1,5 @@
 -- The sessions as a map from ids.
-use Rattle.std.proofs.Common.{◌≡◌, ℕ, Bool, true, false, not, List, [], ◌∷◌, map, cond, Some, None}
+use Rattle.std.proofs.Common.{◌≡◌, ℕ, Bool, true, false, not, List, [], ◌∷◌, map, cond, Option, Some, None}
 use Rattle.std.proofs.Common.{refl, sym, ◌∙◌, ap}
 use Rattle.std.specs.Rc.{rc_str_bytes}
 use Rattle.std.specs.declared.cmp.Ordering.TheVariants.{Less, Equal}
@@ -44,6 +44,14 @@ found-is bs (e ∷ es) =
           let other : has_id bs (session_in e) ≡ false = sym (finds-is bs e.0) ∙ h in
           rw other (found-is bs es))
     ]) refl
+
+-- a look-up finds the session of that client among all
+pub looked-up : (bs id : List ℕ) (found : Option Session) (es : List Entry)
+    (ss : List world.Session) → found ≡ lookup (finds bs) es → bs ≡ id → map session_in es ≡ ss
+    → option_map (session_at id) found ≡ session_of ss id
+looked-up bs id found es ss value is seen =
+    ap (option_map (session_at id)) (value ∙ ap (λ t. lookup (finds t) es) is)
+    ∙ found-is id es ∙ ap (λ (l : List world.Session). session_of l id) seen
 
 -- to remove the entry that bytes find is to leave out the session of that client
 pub removed-is : (bs : List ℕ) (es : List Entry) → IsStrictlySortedBy key_cmp (keys_of es)

@@ -33,12 +33,12 @@ any_weaker p q step (s ∷ ss) h =
     ∙ or-true (q s))
 
 -- the first end in the index has come
-pub any-first : (moment : ℕ) (dues : List Due) (ss : List Session) → IsFirstLive dues ss
+pub any-first : (moment : ℕ) (dues : List Due) (ss : List Session) → IsFirstLive moment dues ss
     → option_map_or (λ due. nat_le due.0 moment) (first_of dues) false ≡ true
     → list_any (has_ended moment) ss ≡ true
 any-first moment [] ss live h = absurd (true≢false (sym h))
 any-first moment (d ∷ ds) ss live h =
-    any_weaker (has_end d) (has_ended moment) (λ s. ends-moment moment d s h) ss live
+    any_weaker (has_end d) (has_ended moment) (λ s. ends-moment moment d s h) ss (live h)
 
 in-late : (moment : ℕ) (d : Due) (dues : List Due) → is_in d dues ≡ true
     → list_any (λ due. nat_le due.0 moment) dues ≡ false → nat_le d.0 moment ≡ false
@@ -72,7 +72,7 @@ none-until moment dues ss listed none =
 
 -- a test that agrees with all ends and with the first one shows whether a session has ended
 pub any-is : (moment : ℕ) (dues : List Due) (ss : List Session) → AreListed dues ss
-    → IsFirstLive dues ss → (b : Bool) → b ≡ list_any (λ due. nat_le due.0 moment) dues
+    → IsFirstLive moment dues ss → (b : Bool) → b ≡ list_any (λ due. nat_le due.0 moment) dues
     → b ≡ option_map_or (λ due. nat_le due.0 moment) (first_of dues) false
     → b ≡ list_any (has_ended moment) ss
 any-is moment dues ss listed live true all first =
@@ -173,21 +173,21 @@ taken-shorter id (d ∷ ds) rest is left = sym left.count
 
 -- the client that the first end names, if that has come, is among those whose sessions ended
 pub taken-ended : (moment : ℕ) (id : Text) (dues : List Due) (ss : List Session)
-    → IsFirstId id dues → IsFirstLive dues ss
+    → IsFirstId id dues → IsFirstLive moment dues ss
     → option_map_or (λ due. nat_le due.0 moment) (first_of dues) false ≡ true
     → is_among (filter (has_ended moment) ss) id ≡ true
 taken-ended moment id [] ss is live come = cc
 taken-ended moment id (d ∷ ds) ss is live come =
     subst (λ t. is_among (filter (has_ended moment) ss) t ≡ true) (sym (text_same id d.1 is))
-    (among-ended moment d ss come live)
+    (among-ended moment d ss come (live come))
 
 -- none of the sessions that stay is of the client that the first end names, if that has come
 pub taken-only : (moment : ℕ) (id : Text) (dues : List Due) (ss : List Session)
-    → IsFirstId id dues → IsFirstLive dues ss
+    → IsFirstId id dues → IsFirstLive moment dues ss
     → option_map_or (λ due. nat_le due.0 moment) (first_of dues) false ≡ true
     → IsStrictlySortedBy session_cmp ss
     → is_among (filter (λ s. not (has_ended moment s)) ss) id ≡ false
 taken-only moment id [] ss is live come sorted = cc
 taken-only moment id (d ∷ ds) ss is live come sorted =
     subst (λ t. is_among (filter (λ s. not (has_ended moment s)) ss) t ≡ false)
-    (sym (text_same id d.1 is)) (only-ended moment d ss come sorted live)
+    (sym (text_same id d.1 is)) (only-ended moment d ss come sorted (live come))

@@ -20,7 +20,7 @@ use Rattle.mq_world.proofs.OrderLemmas.{all_weaker, less_from}
 use Rattle.mq_sessions.specs.Walks.{AreLeft, entries_left, is_past}
 use Rattle.mq_sessions.specs.declared.sessions.session.Session.{Session}
 
-lower_differs : (a b : Text) → text_cmp a b ≡ Less → same_text a b ≡ false
+pub lower_differs : (a b : Text) → text_cmp a b ≡ Less → same_text a b ≡ false
 lower_differs a b h = sym (is_eq-slice_cmp a b) ∙ ap is_eq h
 
 -- none of the sessions behind the id has it

@@ -1,5 +1,5 @@
 -- When sessions end, and the index of their ends.
-use Rattle.std.specs.Prelude.{◌≡◌, ℕ, ◌+◌, ◌≤◌, Bool, true, false, List, length, map, Option, None}
+use Rattle.std.specs.Prelude.{◌≡◌, ℕ, ◌+◌, ◌≤◌, nat_le, Bool, true, false, List, length, map, Option, None}
 use Rattle.std.specs.Option.{IfSome, option_map_or}
 use Rattle.std.specs.List.{list_any, AllByRecursion}
 use Rattle.std.specs.Rc.{rc_str_bytes}
@@ -25,16 +25,15 @@ IsListed dues session = IfSome (end_of session) (λ end. is_in (end, session.id)
 abbrev pub AreListed : List Due → List Session → Type 0
 AreListed dues sessions = AllByRecursion (IsListed dues) sessions
 
--- the first end in the index is that of a session: its client has not come back
-abbrev pub IsFirstLive : List Due → List Session → Type 0
-IsFirstLive dues sessions =
-    IfSome (first_of dues) (λ due. list_any (has_end due) sessions ≡ true)
-
 -- and there is room for the end of each session whose client is connected, which comes in without memory
 pub record AreIndexed (index : Dues) (sessions : List Session) : Type 0 where
   pub listed : AreListed index.entries sessions
-  pub first : IsFirstLive index.entries sessions
   pub room : length index.entries + length (connected sessions) ≤ index.room
+
+-- if the first end in the index has come, it is that of a session: its client has not come back
+abbrev pub IsFirstLive : ℕ → List Due → List Session → Type 0
+IsFirstLive moment dues sessions = IfSome (first_of dues)
+    (λ due. nat_le due.0 moment ≡ true → list_any (has_end due) sessions ≡ true)
 
 abbrev pub Entry : Type 0
 Entry = Key × code.Session

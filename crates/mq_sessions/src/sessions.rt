@@ -42,7 +42,7 @@ use crate::sessions::queued::QueuedCopy;
 use crate::sessions::session::Session;
 use disconnection::disconnect;
 use end_heap::Ends;
-use ends::{drop_stale_ends, drop_stale_ends_if, push_end, reserve_ends};
+use ends::{drop_stale_ends, push_end, reserve_ends};
 use mq_world::{Clock, Delivery};
 use resume::restart;
 use std::alloc::{AllocError, Global};
@@ -185,10 +185,8 @@ impl Sessions {
         ensures err { OnErr result (self.new ≡ self.old) }
     {
         reserve_ends(alloc, &mut self.ends, &self.by_id)?;
-        let concerned = self.ends.begins_with(id.as_str());
         if let Some(session) = self.by_id.get_mut(id.as_str()) {
             let copies = restart(alloc, session, clock, id, user, interval, clean)?;
-            drop_stale_ends_if(concerned, &mut self.ends, &self.by_id);
             return Ok(copies);
         }
         self.insert(alloc, id, user, interval)?;
@@ -210,10 +208,8 @@ impl Sessions {
     {
         let kept = id.clone()?;
         reserve_ends(alloc, &mut self.ends, &self.by_id)?;
-        let concerned = self.ends.begins_with(id.as_str());
         let session = Session::new(alloc, kept, user, interval);
         self.by_id.insert(id, session)?;
-        drop_stale_ends_if(concerned, &mut self.ends, &self.by_id);
         Ok(())
     }
 
@@ -227,7 +223,6 @@ impl Sessions {
             return;
         };
         push_end(&mut self.ends, disconnection.end, disconnection.id);
-        drop_stale_ends(&mut self.ends, &self.by_id);
     }
 
     pub fn remove(&mut self, id: &str)
@@ -235,9 +230,7 @@ impl Sessions {
     {
         // Learns that the ids are in order.
         let _count = self.by_id.len();
-        let concerned = self.ends.begins_with(id);
         let _ = self.by_id.remove(id);
-        drop_stale_ends_if(concerned, &mut self.ends, &self.by_id);
     }
 
     /// Takes out a session that has ended, if there is one, and gives the id of its client.
@@ -251,6 +244,7 @@ impl Sessions {
         ensures taken { IfSome result (λ id. self.new
             ≡ filter (λ session. not (has_id (rc_str_bytes id) session)) self.old) }
     {
+        drop_stale_ends(moment, &mut self.ends, &self.by_id);
         if !self.ends.any_until(moment) {
             return None;
         }
@@ -258,7 +252,6 @@ impl Sessions {
         let _count = self.by_id.len();
         let client = self.ends.pop()?;
         let _ = self.by_id.remove(client.as_str());
-        drop_stale_ends(&mut self.ends, &self.by_id);
         Some(client)
     }
 

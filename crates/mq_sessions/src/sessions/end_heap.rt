@@ -6,7 +6,6 @@ ghost use Rattle.std.specs.Prelude.{◌≡◌, ◌+◌, ◌<◌, ◌≤◌, nat_
 ghost use Rattle.std.specs.Option.{option_map, option_map_or};
 ghost use Rattle.std.specs.List.{list_any};
 ghost use Rattle.std.specs.Rc.{rc_str_bytes};
-ghost use Rattle.mq_world.specs.Lists.{same_text};
 ghost use Rattle.mq_sessions.specs.Dues.{first_of, AreWith, AreRest};
 
 use std::alloc::{AllocError, Global};
@@ -72,17 +71,6 @@ impl Ends {
     {
         let first = self.heap.peek()?;
         Some((first.0.0, &first.1))
-    }
-
-    /// Whether the first end is one of this client.
-    pub fn begins_with(&self, client: &str) -> bool
-        ensures { result ≡ option_map_or (λ due. same_text due.1 client.now)
-            (first_of self.now.entries) false }
-    {
-        match self.heap.peek() {
-            None => false,
-            Some(first) => first.1.as_str() == client,
-        }
     }
 
     /// Whether an end is not after the moment. It looks at the first alone.

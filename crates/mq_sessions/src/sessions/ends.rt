@@ -1,6 +1,6 @@
 //! The index of the ends of sessions. It lists the end of each, and ends that are none any more: of
-//! clients that came back. Those go where they come first, or where a client that connects finds
-//! too little room.
+//! clients that came back, and of sessions that were removed. Those go when they are due, or where a
+//! client that connects finds too little room.
 ghost use Rattle.std.specs.Prelude.{◌≡◌, ◌+◌, ◌<◌, ◌≤◌, true, false, length, IfOk, OnOk, IfSome};
 ghost use Rattle.std.specs.List.{list_any};
 ghost use Rattle.std.specs.Rc.{rc_str_bytes};
@@ -26,38 +26,19 @@ fn has_end(sessions: &BTreeMap<RcStr, Session>, end: u64, client: &RcStr) -> boo
     }
 }
 
-/// Takes out what is first, as long as no session ends so.
-pub(crate) fn drop_stale_ends(ends: &mut Ends, sessions: &BTreeMap<RcStr, Session>)
+/// Takes out what is first and due, as long as no session ends so.
+pub(crate) fn drop_stale_ends(moment: u64, ends: &mut Ends, sessions: &BTreeMap<RcStr, Session>)
     requires { AreListed ends.old.entries (views_of sessions.now.entries) }
     ensures listed { AreListed ends.new.entries (views_of sessions.now.entries) }
-    ensures first { IsFirstLive ends.new.entries (views_of sessions.now.entries) }
+    ensures first { IsFirstLive moment ends.new.entries (views_of sessions.now.entries) }
     ensures count { length ends.new.entries ≤ length ends.old.entries }
     ensures room { ends.new.room ≡ ends.old.room }
 {
     while let Some((end, client)) = ends.first() {
-        if has_end(sessions, end, client) {
+        if moment < end || has_end(sessions, end, client) {
             return;
         }
         let _ = ends.pop();
-    }
-}
-
-/// The same where the first end may be none any more. Elsewhere it spares a look-up.
-pub(crate) fn drop_stale_ends_if(
-    concerned: bool,
-    ends: &mut Ends,
-    sessions: &BTreeMap<RcStr, Session>,
-)
-    requires listed { AreListed ends.old.entries (views_of sessions.now.entries) }
-    requires first { concerned ≡ false
-        → IsFirstLive ends.old.entries (views_of sessions.now.entries) }
-    ensures listed { AreListed ends.new.entries (views_of sessions.now.entries) }
-    ensures first { IsFirstLive ends.new.entries (views_of sessions.now.entries) }
-    ensures count { length ends.new.entries ≤ length ends.old.entries }
-    ensures room { ends.new.room ≡ ends.old.room }
-{
-    if concerned {
-        drop_stale_ends(ends, sessions);
     }
 }
 
@@ -113,8 +94,6 @@ pub(crate) fn reserve_ends(
         return Ok(());
     }
     let room = all.checked_mul(3).ok_or(AllocError)?;
-    let mut anew = ends_of(alloc, sessions, room)?;
-    drop_stale_ends(&mut anew, sessions);
-    *ends = anew;
+    *ends = ends_of(alloc, sessions, room)?;
     Ok(())
 }

@@ -1,7 +1,6 @@
 use Rattle.std.proofs.Common.{◌≡◌, ◌+◌, ◌≤◌, ◌∙◌, ◌&&◌, [], List, None, Some, arith, ap, false}
-use Rattle.std.proofs.Common.{length, map, not, rules, string_bytes, subst, sym, true}
-use Rattle.std.specs.List.{list_any}
-use Rattle.std.specs.Map.{lookup, set_value}
+use Rattle.std.proofs.Common.{length, map, not, rules, string_bytes, subst, sym}
+use Rattle.std.specs.Map.{set_value}
 use Rattle.std.specs.Option.{option_map, option_map_or}
 use Rattle.std.specs.Rc.{rc_str_bytes}
 use Rattle.std.proofs.Math.Bool.{and-false}
@@ -11,26 +10,23 @@ use Rattle.mq_world.specs.Lists.{with_row}
 use Rattle.mq_world.specs.Sessions.{new_session, outlives_connection, session_of}
 use Rattle.mq_world.specs.World.{Session, session_cmp}
 use Rattle.mq_world.proofs.ListLemmas.{on_err}
-use Rattle.mq_world.proofs.OrderLemmas.{all-with_row, session_total}
 use Rattle.mq_world.proofs.TextKeys.{finds}
-use Rattle.mq_sessions.specs.Ends.{AreIndexed, AreListed, IsListed, KeepIds, KeepsId, end_of, has_end}
+use Rattle.mq_sessions.specs.Ends.{AreIndexed, AreListed, KeepIds, KeepsId, end_of}
 use Rattle.mq_sessions.specs.Ends.{views_of}
 use Rattle.mq_sessions.specs.Views.{session_at, session_in, sessions_of}
-use Rattle.mq_sessions.proofs.EndLemmas.{connected-most, first-stays, live-put, no-end}
+use Rattle.mq_sessions.proofs.EndLemmas.{connected-most, listed-put}
 use Rattle.mq_sessions.proofs.EntryLemmas.{entries-put, ids-put, length-put}
 use Rattle.mq_sessions.proofs.ReachedLemmas.{reached-found}
 use Rattle.mq_sessions.proofs.ResumeLemmas.{resumed-if, resumed-none}
-use Rattle.mq_sessions.proofs.SessionLemmas.{found-is, put-is}
+use Rattle.mq_sessions.proofs.SessionLemmas.{looked-up, put-is}
 use Rattle.mq_sessions.proofs.sessions.Sessions.start.Goals as goal
 
 pub restart-requires : goal.restart-requires
 restart-requires c =
     let id = rc_str_bytes c.args.id in
     let found : Some (session_at id c.in-Some.session.now) ≡ session_of c.args.self.now id =
-    ap (option_map (session_at id)) (c.in-Some.ensures.value
-    ∙ ap (λ t. lookup (finds t) c.self.inside.by_id.entries) c.as_str-2.ensures.value)
-    ∙ found-is id c.self.inside.by_id.entries
-    ∙ ap (λ (ss : List Session). session_of ss id) c.self.view_is in
+    looked-up c.as_str.result.now id (Some c.in-Some.session.now) c.self.inside.by_id.entries
+    c.args.self.now c.in-Some.ensures.value c.as_str.ensures.value c.self.view_is in
     reached-found c.args.clock.moment id (session_at id c.in-Some.session.now) c.args.self.now
     found c.requires
 
@@ -39,7 +35,7 @@ restart-requires c =
 pub invariant_of-self-in_err-copies : goal.invariant_of-self-in_err-copies
 invariant_of-self-in_err-copies c =
     let es = c.self.inside.by_id.entries in
-    let id = c.as_str-2.result.now in
+    let id = c.as_str.result.now in
     let same = (c.get_mut.follows.holds c.restart.new.session).0
     ∙ ap (set_value (finds id) es) c.in_err-copies.ensures.err
     ∙ set_value_same (finds id) es c.in-Some.session.now (sym c.in-Some.ensures.value) in (
@@ -51,7 +47,7 @@ invariant_of-self-in_err-copies c =
 pub returns-in_err-copies-clause-err : goal.returns-in_err-copies-clause-err
 returns-in_err-copies-clause-err c =
     let es = c.self.inside.by_id.entries in
-    let id = c.as_str-2.result.now in
+    let id = c.as_str.result.now in
     let same = (c.get_mut.follows.holds c.restart.new.session).0
     ∙ ap (set_value (finds id) es) c.in_err-copies.ensures.err
     ∙ set_value_same (finds id) es c.in-Some.session.now (sym c.in-Some.ensures.value) in
@@ -59,47 +55,23 @@ returns-in_err-copies-clause-err c =
 
 -- ## The session takes the place of the older one
 
-pub drop_stale_ends_if-requires-clause-listed : goal.drop_stale_ends_if-requires-clause-listed
-drop_stale_ends_if-requires-clause-listed c =
-    let es = c.self.inside.by_id.entries in
-    let is = entries-put c.as_str-2.result.now c.args.id c.in-Some.session.now
-    c.restart.new.session es _ c.as_str-2.ensures.value
-    (c.get_mut.follows.holds c.restart.new.session).0 c.in-Some.ensures.value
-    c.in-Some.ensures.ordered in
-    let dues = c.reserve_ends.new.ends.entries in
-    let session = session_at (rc_str_bytes c.args.id) c.restart.new.session in
-    subst (AreListed dues) (sym (ap (map session_in) is
-    ∙ put-is c.args.id c.restart.new.session es c.in-Some.ensures.ordered))
-    (all-with_row session_cmp session_total (IsListed dues) session (sessions_of c.self.inside)
-    (no-end dues session (sym (ap end_of c.in_ok-copies.ensures.shown)))
-    c.reserve_ends.ensures.indexed.listed)
-
-pub drop_stale_ends_if-requires-clause-first : goal.drop_stale_ends_if-requires-clause-first
-drop_stale_ends_if-requires-clause-first c = λ other.
-    let es = c.self.inside.by_id.entries in
-    let is = entries-put c.as_str-2.result.now c.args.id c.in-Some.session.now
-    c.restart.new.session es _ c.as_str-2.ensures.value
-    (c.get_mut.follows.holds c.restart.new.session).0 c.in-Some.ensures.value
-    c.in-Some.ensures.ordered in
-    first-stays c.as_str.result.now c.reserve_ends.new.ends.entries (views_of es)
-    (views_of (c.get_mut.follows.lender c.restart.new.session).entries)
-    (sym c.begins_with-concerned.ensures ∙ other)
-    (λ due o live. subst (λ l. list_any (has_end due) (views_of l) ≡ true) (sym is)
-    (live-put c.args.id c.restart.new.session due es (rw c.as_str.ensures.value at o) live))
-    c.reserve_ends.ensures.indexed.first
-
 pub invariant_of-self-in-Some : goal.invariant_of-self-in-Some
 invariant_of-self-in-Some c =
     let es = c.self.inside.by_id.entries in
-    let is = entries-put c.as_str-2.result.now c.args.id c.in-Some.session.now
-    c.restart.new.session es _ c.as_str-2.ensures.value
+    let is = entries-put c.as_str.result.now c.args.id c.in-Some.session.now
+    c.restart.new.session es _ c.as_str.ensures.value
     (c.get_mut.follows.holds c.restart.new.session).0 c.in-Some.ensures.value
     c.in-Some.ensures.ordered in
     let session = c.restart.new.session in
+    let dues = c.reserve_ends.new.ends.entries in
     let keeps : KeepsId (c.args.id, session) = search rules in (
       record {
-        listed = c.drop_stale_ends_if.ensures.listed;
-        first = c.drop_stale_ends_if.ensures.first;
+        listed =
+            subst (AreListed dues) (sym (ap (map session_in) is
+            ∙ put-is c.args.id session es c.in-Some.ensures.ordered))
+            (listed-put dues (session_at (rc_str_bytes c.args.id) session)
+            (sessions_of c.self.inside) (sym (ap end_of c.in_ok-copies.ensures.shown))
+            c.reserve_ends.ensures.indexed.listed);
         room =
             let after = (c.get_mut.follows.lender session).entries in
             let count : length (views_of after) ≡ length after = length-map after session_in in
@@ -109,8 +81,6 @@ invariant_of-self-in-Some c =
               arith,
               connected-most (views_of after),
               c.in_ok-reserve_ends.ensures.ok,
-              c.drop_stale_ends_if.ensures.count,
-              c.drop_stale_ends_if.ensures.room,
             );
       },
       subst KeepIds (sym is) (ids-put c.args.id session es keeps c.self.invariant.1),
@@ -120,10 +90,8 @@ pub returns-in-Some-clause-resumed : goal.returns-in-Some-clause-resumed
 returns-in-Some-clause-resumed c =
     let id = rc_str_bytes c.args.id in
     let found : Some (session_at id c.in-Some.session.now) ≡ session_of c.args.self.now id =
-    ap (option_map (session_at id)) (c.in-Some.ensures.value
-    ∙ ap (λ t. lookup (finds t) c.self.inside.by_id.entries) c.as_str-2.ensures.value)
-    ∙ found-is id c.self.inside.by_id.entries
-    ∙ ap (λ (ss : List Session). session_of ss id) c.self.view_is in
+    looked-up c.as_str.result.now id (Some c.in-Some.session.now) c.self.inside.by_id.entries
+    c.args.self.now c.in-Some.ensures.value c.as_str.ensures.value c.self.view_is in
     let stays = ap (λ s. option_map_or outlives_connection s false) (sym found) in
     c.in_ok-copies.ensures.resumed
     ∙ resumed-if c.args.clock.moment c.args.self.now id c.args.clean _ _
@@ -134,8 +102,8 @@ pub returns-in-Some-clause-ok : goal.returns-in-Some-clause-ok
 returns-in-Some-clause-ok c =
     let id = rc_str_bytes c.args.id in
     let es = c.self.inside.by_id.entries in
-    let is = entries-put c.as_str-2.result.now c.args.id c.in-Some.session.now
-    c.restart.new.session es _ c.as_str-2.ensures.value
+    let is = entries-put c.as_str.result.now c.args.id c.in-Some.session.now
+    c.restart.new.session es _ c.as_str.ensures.value
     (c.get_mut.follows.holds c.restart.new.session).0 c.in-Some.ensures.value
     c.in-Some.ensures.ordered in
     ap (map session_in) is
@@ -151,10 +119,8 @@ pub returns-clause-resumed : goal.returns-clause-resumed
 returns-clause-resumed c =
     let id = rc_str_bytes c.args.id in
     let none : None ≡ session_of c.args.self.now id =
-    ap (option_map (session_at id)) (c.in_default.ensures.value
-    ∙ ap (λ t. lookup (finds t) c.self.inside.by_id.entries) c.as_str-2.ensures.value)
-    ∙ found-is id c.self.inside.by_id.entries
-    ∙ ap (λ (ss : List Session). session_of ss id) c.self.view_is in
+    looked-up c.as_str.result.now id None c.self.inside.by_id.entries c.args.self.now
+    c.in_default.ensures.value c.as_str.ensures.value c.self.view_is in
     resumed-none c.args.clock.moment c.args.self.now id c.args.clean
     (ap (λ s. not c.args.clean && option_map_or outlives_connection s false) (sym none)
     ∙ and-false (not c.args.clean))

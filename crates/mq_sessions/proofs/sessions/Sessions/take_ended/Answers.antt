@@ -16,45 +16,42 @@ use Rattle.mq_sessions.proofs.sessions.Sessions.take_ended.Goals as goal
 pub returns-then-not-any_until-clause-none : goal.returns-then-not-any_until-clause-none
 returns-then-not-any_until-clause-none c =
     sym (sym c.if-not-any_until.true
-    ∙ any-is c.args.moment c.self.inside.ends.entries (sessions_of c.self.inside)
-    c.self.invariant.0.listed c.self.invariant.0.first c.any_until.result
+    ∙ any-is c.args.moment c.drop_stale_ends.new.ends.entries (sessions_of c.self.inside)
+    c.drop_stale_ends.ensures.listed c.drop_stale_ends.ensures.first c.any_until.result
     c.any_until.ensures.all c.any_until.ensures.first
     ∙ ap (list_any (has_ended c.args.moment)) c.self.view_is)
 
-pub drop_stale_ends-requires : goal.drop_stale_ends-requires
-drop_stale_ends-requires c =
-    let sessions : List Session = sessions_of c.self.inside in
-    let rest = c.pop.new.self.entries in
-    subst (AreListed rest)
-    (ap (λ id. filter (λ s. not (has_id id s)) sessions) (sym c.as_str.ensures.value)
-    ∙ sym (ap (map session_in) c.remove.ensures.entries
-    ∙ removed-is c.as_str.result.now c.self.inside.by_id.entries c.len-count.ensures.ordered))
-    (taken-listed (rc_str_bytes c.in_ok-client.client) c.self.inside.ends.entries rest sessions
-    c.in_ok-client.ensures.client c.pop.ensures.entries c.self.invariant.0.listed)
-
 pub invariant_of-self-2 : goal.invariant_of-self-2
-invariant_of-self-2 c = (
-  record {
-    listed = c.drop_stale_ends.ensures.listed;
-    first = c.drop_stale_ends.ensures.first;
-    room =
-        let fewer = connected-fewer (λ session. not (has_id c.as_str.result.now session))
-        (sessions_of c.self.inside) in
-        let count = ap (λ ss. length (connected ss)) (ap (map session_in) c.remove.ensures.entries
-        ∙ removed-is c.as_str.result.now c.self.inside.by_id.entries c.len-count.ensures.ordered) in
-        let less = taken-shorter (rc_str_bytes c.in_ok-client.client) c.self.inside.ends.entries
-        c.pop.new.self.entries c.in_ok-client.ensures.client c.pop.ensures.entries in
-        omega (
-          arith,
-          c.self.invariant.0.room,
-          c.pop.ensures.room,
-          c.drop_stale_ends.ensures.count,
-          c.drop_stale_ends.ensures.room,
-        );
-  },
-  subst KeepIds (sym c.remove.ensures.entries)
-      (ids-removed (finds c.as_str.result.now) c.self.inside.by_id.entries c.self.invariant.1),
-)
+invariant_of-self-2 c =
+    let sessions : List Session = sessions_of c.self.inside in
+    let dues = c.drop_stale_ends.new.ends.entries in (
+      record {
+        listed =
+            let rest = c.pop.new.self.entries in
+            subst (AreListed rest)
+            (ap (λ id. filter (λ s. not (has_id id s)) sessions) (sym c.as_str.ensures.value)
+            ∙ sym (ap (map session_in) c.remove.ensures.entries
+            ∙ removed-is c.as_str.result.now c.self.inside.by_id.entries c.len-count.ensures.ordered))
+            (taken-listed (rc_str_bytes c.in_ok-client.client) dues rest sessions
+            c.in_ok-client.ensures.client c.pop.ensures.entries c.drop_stale_ends.ensures.listed);
+        room =
+            let fewer = connected-fewer (λ session. not (has_id c.as_str.result.now session))
+            (sessions_of c.self.inside) in
+            let count = ap (λ ss. length (connected ss)) (ap (map session_in) c.remove.ensures.entries
+            ∙ removed-is c.as_str.result.now c.self.inside.by_id.entries c.len-count.ensures.ordered) in
+            let less = taken-shorter (rc_str_bytes c.in_ok-client.client) dues
+            c.pop.new.self.entries c.in_ok-client.ensures.client c.pop.ensures.entries in
+            omega (
+              arith,
+              c.self.invariant.0.room,
+              c.pop.ensures.room,
+              c.drop_stale_ends.ensures.count,
+              c.drop_stale_ends.ensures.room,
+            );
+      },
+      subst KeepIds (sym c.remove.ensures.entries)
+          (ids-removed (finds c.as_str.result.now) c.self.inside.by_id.entries c.self.invariant.1),
+    )
 
 pub returns-clause-taken : goal.returns-clause-taken
 returns-clause-taken c =
@@ -70,8 +67,8 @@ returns-clause-ended c =
     let id = rc_str_bytes c.in_ok-client.client in
     let moment = c.args.moment in
     subst (λ ss. is_among (filter (has_ended moment) ss) id ≡ true) c.self.view_is
-    (taken-ended moment id c.self.inside.ends.entries (sessions_of c.self.inside)
-    c.in_ok-client.ensures.client c.self.invariant.0.first
+    (taken-ended moment id c.drop_stale_ends.new.ends.entries (sessions_of c.self.inside)
+    c.in_ok-client.ensures.client c.drop_stale_ends.ensures.first
     (sym c.any_until.ensures.first ∙ c.if-not-any_until.false))
 
 pub returns-clause-only : goal.returns-clause-only
@@ -80,7 +77,7 @@ returns-clause-only c =
     let moment = c.args.moment in
     subst (λ (ss : List Session). is_among (filter (λ s. not (has_ended moment s)) ss) id ≡ false)
     c.self.view_is
-    (taken-only moment id c.self.inside.ends.entries (sessions_of c.self.inside)
-    c.in_ok-client.ensures.client c.self.invariant.0.first
+    (taken-only moment id c.drop_stale_ends.new.ends.entries (sessions_of c.self.inside)
+    c.in_ok-client.ensures.client c.drop_stale_ends.ensures.first
     (sym c.any_until.ensures.first ∙ c.if-not-any_until.false)
     (sorted-is c.self.inside.by_id.entries c.len-count.ensures.ordered))

@@ -9,17 +9,14 @@ pub returns-clause-indexed : goal.returns-clause-indexed
 returns-clause-indexed c =
     let es = c.args.sessions.now.entries in
     record {
-      listed = c.drop_stale_ends.ensures.listed;
-      first = c.drop_stale_ends.ensures.first;
+      listed = c.in_ok-ends.ensures.listed;
       room =
           let long : length (views_of es) ≡ length es = length-map es session_in in
           let fits : (length es + 1) * 3 ≤ c.in_ok-room.room = search rules in
           omega (
             arith,
             connected-most (views_of es),
-            c.drop_stale_ends.ensures.count,
-            c.drop_stale_ends.ensures.room,
-            c.in_ok-anew.ensures.count,
-            c.in_ok-anew.ensures.room,
+            c.in_ok-ends.ensures.count,
+            c.in_ok-ends.ensures.room,
           );
     }
