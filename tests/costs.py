@@ -111,11 +111,11 @@ def concern(counter, one):
     return [for_each(one.name, kind, few, many, n, most) for kind, most in one.bounds.items()]
 
 
-def payload(counter, name, script, copies, most):
-    """The blocks of a payload's length that each copy takes."""
-    few, many = (cost_of(counter, name, script(n, payload=concerned.LONG), copies(n),
+def long_text(counter, text, name, script, copies, most):
+    """The blocks of a payload's or a topic's length that each copy takes."""
+    few, many = (cost_of(counter, name, script(n, **{text: concerned.LONG}), copies(n),
                          long=len(concerned.LONG)) for n in (COPIES, 2 * COPIES))
-    return [for_each(f"{name} with a long payload", "long_blocks", few, many, COPIES, most)]
+    return [for_each(f"{name} with a long {text}", "long_blocks", few, many, COPIES, most)]
 
 
 def kept(counter, kind, most):
@@ -143,7 +143,7 @@ def parts():
     yield growth,
     yield start,
     yield from ((concern, one) for one in concerned.CONCERNS)
-    yield from ((payload, *one) for one in concerned.PAYLOADS)
+    yield from ((long_text, *one) for one in concerned.LONG_TEXTS)
     yield from ((kept, *one) for one in concerned.KEPT.items())
     yield from ((large, one) for one in concerned.CONCERNS)
 

@@ -6,11 +6,11 @@ from costs_scripts import FOREVER, away, line, publish, retain, subscribe
 LONG = "x" * 10_000
 
 
-def receivers(n, **fields):
+def receivers(n, topic="1", **fields):
     """Clients that subscribe to one filter, and a publish to them."""
     before = [part for i in range(n) for part in
               (line("connect", f"client-{i}"), subscribe("site/+", f"client-{i}", qos=1))]
-    return before, publish("site/1", qos=1, **fields)
+    return before, publish(f"site/{topic}", qos=1, **fields)
 
 
 def colleagues(n, users=1, lines=1_000, more=""):
@@ -65,8 +65,9 @@ def matching_filters(n):
     return before, publish("/".join("a" * levels))
 
 
-def retained(n, **fields):
-    before = [line("connect", "client-0"), *(retain(f"site/{i}", **fields) for i in range(n))]
+def retained(n, topic="", **fields):
+    before = [line("connect", "client-0"),
+              *(retain(f"site/{i}{topic}", **fields) for i in range(n))]
     return before, subscribe("#")
 
 
@@ -148,13 +149,15 @@ CONCERNS = [
     Concern("a stat of subscriptions and messages", counted, none, {"blocks": 0}),
 ]
 
-# How many blocks of the length of a long payload each copy may take. The text that is printed is
-# one. Halves are for what happens at times.
-PAYLOADS = [("a publish to clients", receivers, each, 1.5),
-            ("a publish to groups", served_groups, each, 1.5),
-            ("a publish that waits for clients", sleepers, none, 0.5),
-            ("a subscribe that is sent retained messages", retained, each, 1.5),
-            ("a connect that is sent waiting copies", waiting, each, 1.5)]
+# How many blocks of the length of a long text each copy may take. The text that is printed is one.
+# Halves are for what happens at times.
+LONG_TEXTS = [("payload", "a publish to clients", receivers, each, 1.5),
+              ("payload", "a publish to groups", served_groups, each, 1.5),
+              ("payload", "a publish that waits for clients", sleepers, none, 0.5),
+              ("payload", "a subscribe that is sent retained messages", retained, each, 1.5),
+              ("payload", "a connect that is sent waiting copies", waiting, each, 1.5),
+              ("topic", "a publish to clients", receivers, each, 1.5),
+              ("topic", "a subscribe that is sent retained messages", retained, each, 1.5)]
 
 # So many things as no other test has at once.
 LARGE = {receivers: 20_000, colleagues: 20_000, mixed_colleagues: 20_000,

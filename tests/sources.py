@@ -63,10 +63,11 @@ MADE_OF = {
     "Node": "value: Option<V>, children: BTreeMap<String, Box<Node<V>>>",
     "SubscriptionOptions": "qos: u8, no_local: bool, rap: bool, handling: u8, id: Option<u32>",
     "Group": "members: IndexMap<RcStr, SubscriptionOptions>",
-    "Stored": "topic: TopicName, payload: RcStr, qos: u8, publisher: RcStr, deadline: Option<u64>",
+    "Stored": "topic: Rc<TopicName>, payload: RcStr, qos: u8, publisher: RcStr, deadline: "
+    "Option<u64>",
     "Due": "deadline: u64, topic: TopicName",
-    "Delivery": "client: RcStr, topic: RcStr, payload: RcStr, qos: u8, retain: bool, expiry: "
-    "Option<u32>, ids: Vec<u32>, group: Option<(RcStr, Rc<TopicFilter>)>",
+    "Delivery": "client: RcStr, topic: Rc<TopicName>, payload: RcStr, qos: u8, retain: bool, "
+    "expiry: Option<u32>, ids: Vec<u32>, group: Option<(RcStr, Rc<TopicFilter>)>",
     "TopicName": "text: String",
 }
 

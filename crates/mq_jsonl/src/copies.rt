@@ -14,6 +14,12 @@ use mq_topic::LevelText;
 use mq_world::Delivery;
 use std::alloc::{AllocError, Global};
 
+fn topic_of(delivery: &Delivery) -> &str
+    ensures { result.now ≡ (copy_of delivery.now).topic }
+{
+    delivery.topic.text()
+}
+
 fn share_of(delivery: &Delivery) -> Option<&str>
     ensures { option_copied result
         ≡ option_map (λ group. group.share) (copy_of delivery.now).group }
@@ -51,7 +57,7 @@ fn put_copy(
     object.text(alloc, "payload", delivery.payload.as_str())?;
     object.number(alloc, "qos", u64::from(delivery.qos))?;
     object.flag(alloc, "retain", delivery.retain)?;
-    object.text(alloc, "topic", delivery.topic.as_str())?;
+    object.text(alloc, "topic", topic_of(delivery))?;
     object.numbers_if(alloc, "ids", delivery.ids.as_slice())?;
     object.short_if(alloc, "expiry", delivery.expiry)?;
     object.text_if(alloc, "filter", filter_of(delivery))?;
@@ -79,7 +85,7 @@ fn set_copy(
     let payload = Datum::Text(delivery.payload.as_str());
     let qos = Datum::Number(u64::from(delivery.qos));
     let retain = Datum::Flag(delivery.retain);
-    let topic = Datum::Text(delivery.topic.as_str());
+    let topic = Datum::Text(topic_of(delivery));
     let ids = delivery.ids.as_slice();
     match (ids.is_empty(), delivery.expiry, &delivery.group) {
         (true, None, None) => {
@@ -135,7 +141,7 @@ fn set_texts(
         ≡ copy_members line (copy_of delivery.now)) }
 {
     let client = delivery.client.as_str();
-    let topic = delivery.topic.as_str();
+    let topic = topic_of(delivery);
     let payload = delivery.payload.as_str();
     let same_topic = before.topic == delivery.topic;
     if same_topic && before.payload == delivery.payload {

@@ -220,7 +220,7 @@ pub stored-sound : (s : Stored) (kept : Retained) (tree : Entries Stored)
     → Drops (replaced (deadline_at kept.topic (retained_in tree)) kept.deadline kept.topic) added
     new → IsSound (insert_entry level_order tree (levels kept.topic) s) new
 stored-sound s kept tree pairs added new same sound adds drops =
-    let here : levels kept.topic ≡ levels s.topic =
+    let here : levels kept.topic ≡ levels s.topic.value =
     ap (λ (k : Retained). levels k.topic) (sym same) in
     record {
       ordered = put-ordered (levels kept.topic) s tree sound.ordered;

@@ -30,7 +30,7 @@ abbrev pub Entry : Type 0
 Entry = List (List ℕ) × Stored
 
 abbrev pub Stands : Entry → Type 0
-Stands entry = entry.0 ≡ levels entry.1.topic
+Stands entry = entry.0 ≡ levels entry.1.topic.value
 
 abbrev pub view : Entry → Retained
 view entry = message_in entry.1
@@ -41,11 +41,11 @@ same_key : (k e : List (List ℕ)) → level_order k e ≡ Equal → k ≡ e
 same_key k e h = slice_cmp-IsAntisymmetric (slice_cmp-IsAntisymmetric nat_cmp-IsAntisymmetric) k e h
 
 agrees : (e d : Entry) → Stands e → Stands d → retained_cmp (view e) (view d) ≡ level_order e.0 d.0
-agrees e d p q = ap (λ k. level_order k (levels d.1.topic)) (sym p)
+agrees e d p q = ap (λ k. level_order k (levels d.1.topic.value)) (sym p)
     ∙ ap (λ k. level_order e.0 k) (sym q)
 
 -- to insert at the key of a message's topic is to put the message among the others
-pub put-retained : (k : List (List ℕ)) (s : Stored) (tree : Entries Stored) → k ≡ levels s.topic
+pub put-retained : (k : List (List ℕ)) (s : Stored) (tree : Entries Stored) → k ≡ levels s.topic.value
     → IsPlaced tree → AreInOrder tree → retained_in (insert_entry level_order tree k s)
     ≡ with_row retained_cmp (message_in s) (retained_in tree)
 put-retained k s tree here placed ordered =
@@ -62,7 +62,7 @@ put-ordered k s tree ordered =
     (sorted-with_row level_order levels_total k (keys_of tree) ordered)
 
 -- a message inserted at the key of its topic leaves each message at its topic
-pub put-placed : (k : List (List ℕ)) (s : Stored) (tree : Entries Stored) → k ≡ levels s.topic
+pub put-placed : (k : List (List ℕ)) (s : Stored) (tree : Entries Stored) → k ≡ levels s.topic.value
     → IsPlaced tree → IsPlaced (insert_entry level_order tree k s)
 put-placed k s [] here placed = (here, tt)
 put-placed k s (e ∷ es) here placed =
@@ -81,8 +81,8 @@ put-placed k s (e ∷ es) here placed =
 pub key-is : (topic : Text) (e : Entry) → Stands e
     → is_key (levels topic) e.0 ≡ has_topic topic (view e)
 key-is topic e h =
-    ap (λ k. is_eq (level_order (levels topic) k)) h ∙ level_equal topic e.1.topic
-    ∙ text_flip topic e.1.topic
+    ap (λ k. is_eq (level_order (levels topic) k)) h ∙ level_equal topic e.1.topic.value
+    ∙ text_flip topic e.1.topic.value
 
 key-apart : (k x y : List (List ℕ)) → is_key k x ≡ true → level_order x y ≡ Less
     → is_key k y ≡ false

@@ -16,7 +16,7 @@ use Rattle.mq_retained.specs.declared.retained.stored.Stored.{Stored}
 
 abbrev pub message_in : Stored → Retained
 message_in s = record {
-  topic = s.topic;
+  topic = s.topic.value;
   payload = rc_str_bytes s.payload;
   qos = s.qos;
   publisher = rc_str_bytes s.publisher;
@@ -29,7 +29,7 @@ retained_in tree = map (λ entry. message_in entry.1) tree
 
 -- each message stands at its topic
 abbrev pub IsPlaced : Entries Stored → Type 0
-IsPlaced tree = AllByRecursion (λ entry. entry.0 ≡ levels entry.1.topic) tree
+IsPlaced tree = AllByRecursion (λ entry. entry.0 ≡ levels entry.1.topic.value) tree
 
 -- each message stands at its topic, and the pairs are those of the messages with a deadline
 pub record IsSound (tree : Entries Stored) (pairs : List Pair) : Type 0 where

@@ -54,7 +54,7 @@ group_of names = record { share = rc_str_bytes names.0; filter = names.1.value }
 abbrev pub copy_of : Delivery → Copy
 copy_of d = record {
   client = rc_str_bytes d.client;
-  topic = rc_str_bytes d.topic;
+  topic = d.topic.value;
   payload = rc_str_bytes d.payload;
   qos = d.qos;
   retain = d.retain;

@@ -8,7 +8,7 @@ ghost use Rattle.mq_retained.specs.Receivers.{subscription_for, copies_among};
 
 use crate::retained::stored::Stored;
 use mq_acl::{Acl, may_read};
-use mq_topic::{LevelText, TopicFilter};
+use mq_topic::TopicFilter;
 use mq_world::{Clock, Delivery, SubscriptionOptions};
 use std::alloc::{AllocError, Global};
 use std::rc::RcStr;
@@ -54,7 +54,7 @@ fn retained_copy(
 {
     Ok(Delivery {
         client: receiver.client.clone()?,
-        topic: RcStr::from_str(alloc, stored.topic.text())?,
+        topic: stored.topic.clone()?,
         payload: stored.payload.clone()?,
         qos: stored.qos.min(receiver.options.qos),
         retain: true,

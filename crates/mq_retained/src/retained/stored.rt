@@ -5,12 +5,12 @@ ghost use Rattle.mq_retained.specs.Stored.{message_in, stored_until};
 use mq_topic::TopicName;
 use mq_world::Message;
 use std::alloc::{AllocError, Global};
-use std::rc::RcStr;
+use std::rc::{Rc, RcStr};
 
 /// The message that is retained for a topic.
 pub(crate) struct Stored {
-    pub(crate) topic: TopicName,
-    /// As its copies share it.
+    /// The copies share the topic and the payload.
+    pub(crate) topic: Rc<TopicName>,
     pub(crate) payload: RcStr,
     pub(crate) qos: u8,
     pub(crate) publisher: RcStr,
@@ -36,7 +36,7 @@ impl Stored {
             ≡ stored_until message.now.deadline (message_of message.now)) }
     {
         Ok(Stored {
-            topic: message.topic.clone()?,
+            topic: Rc::new(alloc, message.topic.clone()?)?,
             payload: RcStr::from_str(alloc, message.payload)?,
             qos: message.qos,
             publisher: message.publisher.clone()?,

@@ -3,7 +3,7 @@ ghost use Rattle.std.specs.Prelude.{◌≡◌};
 ghost use Rattle.std.specs.Rc.{rc_str_bytes};
 
 use crate::delivery::summary::Summary;
-use mq_topic::{LevelText, TopicFilter};
+use mq_topic::{TopicFilter, TopicName};
 use mq_world::{Delivery, Message};
 use std::alloc::{AllocError, Global};
 use std::rc::{Rc, RcStr};
@@ -11,9 +11,9 @@ use std::rc::{Rc, RcStr};
 /// A message with its texts as its copies hold them: they are made once, and each copy shares them.
 pub(crate) struct Outgoing<'a> {
     pub(crate) message: Message<'a>,
-    topic: RcStr,
+    topic: Rc<TopicName>,
     payload: RcStr,
-    ghost same_topic: { rc_str_bytes topic ≡ message.topic.now },
+    ghost same_topic: { topic.value ≡ message.topic.now },
     ghost same_payload: { rc_str_bytes payload ≡ message.payload.now },
 }
 
@@ -40,7 +40,7 @@ impl<'a> Outgoing<'a> {
     {
         Ok(Outgoing {
             message: *message,
-            topic: RcStr::from_str(alloc, message.topic.text())?,
+            topic: Rc::new(alloc, message.topic.clone()?)?,
             payload: RcStr::from_str(alloc, message.payload)?,
         })
     }

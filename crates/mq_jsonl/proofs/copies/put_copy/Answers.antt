@@ -17,7 +17,7 @@ returns c =
       c.in_ok-numbers_if.ensures,
       c.as_slice.ensures.value,
       c.in_ok-text-3.ensures,
-      c.as_str-3.ensures.value,
+      c.topic_of.ensures,
       c.in_ok-flag.ensures,
       c.in_ok-number-2.ensures,
       c.from.ensures,

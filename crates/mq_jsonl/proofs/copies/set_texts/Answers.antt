@@ -36,14 +36,14 @@ change_text-requires-2 c =
     rw c.as_str-2.ensures.value (same_payload c.args.line after _ _ _ _
     (topic_written c.args.line (copy_of c.args.before.now) after _ _ _ c.requires
     (rw c.as_str-client.ensures.value at c.in_ok-change_text.ensures)
-    (rw c.as_str-topic.ensures.value at c.in_ok-text.ensures)))
+    (rw c.topic_of-topic.ensures at c.in_ok-text.ensures)))
 
 pub returns : goal.returns
 returns c =
     let after = copy_of c.args.delivery.now in
     let written = topic_written c.args.line (copy_of c.args.before.now) after _ _ _ c.requires
     (rw c.as_str-client.ensures.value at c.in_ok-change_text.ensures)
-    (rw c.as_str-topic.ensures.value at c.in_ok-text.ensures) in
+    (rw c.topic_of-topic.ensures at c.in_ok-text.ensures) in
     on_ok_weaker c.change_text-2.result
     (λ e. e ∙ other_payload c.args.line after _ _ _ _ _ written)
     (rw c.as_str-payload.ensures.value at c.change_text-2.ensures)
