@@ -5,6 +5,7 @@ use Rattle.std.specs.List.{list_any, AllByRecursion}
 use Rattle.std.specs.Map.{lookup, set_value, remove_entry, keys_of}
 use Rattle.std.specs.BTreeMap.{insert_entry}
 use Rattle.std.proofs.lemmas.Map.{keys-set_value}
+use Rattle.std.proofs.lemmas.Map.Steps.{set_value_same}
 use Rattle.std.proofs.lemmas.List.Kept.{IsStrictlySortedBy-filter}
 use Rattle.mq_topic.specs.Levels.{levels, level_order}
 use Rattle.mq_tree.specs.Entries.{is_key, AreInOrder}
@@ -48,6 +49,13 @@ insert_order k es v s =
     rw (map-insert_entry level_order levels_total (λ (e : List Text × Entry). e.0) level_order
     (λ _ _. refl) (λ j e _ h. sym (levels_tied j e (ap is_eq h))) k v es s)
     (sorted-with_row level_order levels_total k (keys_of es) s)
+
+-- to set what is at a key already leaves all as it was
+pub tree-same : (f : Text) (es : Entries) (v w : Entry) (new : Entries)
+    → lookup (is_key (levels f)) es ≡ Some v → new ≡ set_value (is_key (levels f)) es w → w ≡ v
+    → new ≡ es
+tree-same f es v w new found set same =
+    set ∙ ap (set_value (is_key (levels f)) es) same ∙ set_value_same (is_key (levels f)) es v found
 
 -- ## Rows at one key
 

@@ -135,13 +135,20 @@ impl Subscriptions {
         ensures err { OnErr result (self.new ≡ self.old) }
     {
         let id = client.as_str();
-        if self.contains(id, sub_filter) {
-            insert_in(&mut self.tree, self.alloc, client, sub_filter, options)?;
+        let found = replace_in(&mut self.tree, self.alloc, client, sub_filter, options)?;
+        if found.subscription {
             return Ok(());
         }
         self.lists.insert(self.alloc, client, text)?;
         // Where there is no memory, nothing is left beside the tree that leads to no subscription.
-        match insert_in(&mut self.tree, self.alloc, client, sub_filter, options) {
+        match insert_in(
+            &mut self.tree,
+            self.alloc,
+            found.filter,
+            client,
+            sub_filter,
+            options,
+        ) {
             Ok(()) => Ok(()),
             Err(fault) => {
                 self.lists.remove(id, text);
@@ -228,14 +235,66 @@ impl Subscriptions {
     }
 }
 
-fn insert_in(
+/// Whether the tree has a filter, and whether it has a client's subscription to it.
+#[derive(Clone, Copy)]
+struct Found {
+    filter: bool,
+    subscription: bool,
+}
+
+// Puts a subscription in the place of the one with its key, if there is one.
+fn replace_in(
     tree: &mut LevelTree<FilterEntry>,
     alloc: Global,
     client: &RcStr,
     sub_filter: &SubFilter,
     options: SubscriptionOptions,
-) -> Result<(), AllocError>
+) -> Result<Found, AllocError>
     requires { AreEntries tree.old }
+    ensures filter { IfOk result (λ found. found.filter ≡ false
+        → lookup (is_key (levels sub_filter.now.filter)) tree.new ≡ None) }
+    ensures existed { IfOk result (λ found. found.subscription
+        ≡ list_any (has_sub_filter (rc_str_bytes client.now) sub_filter.now) (all_rows tree.old)) }
+    ensures replaced { IfOk result (λ found. found.subscription ≡ true
+        → SameInTurn (all_rows tree.new)
+        (upsert (sub_filter_row (rc_str_bytes client.now) sub_filter.now options)
+        (all_rows tree.old))) }
+    ensures absent { IfOk result (λ found. found.subscription ≡ false → tree.new ≡ tree.old) }
+    ensures err { OnErr result (tree.new ≡ tree.old) }
+    ensures kept { AreEntries tree.new }
+{
+    let share = sub_filter.share.as_deref();
+    let Some(at) = tree.get_mut(&sub_filter.filter) else {
+        return Ok(Found {
+            filter: false,
+            subscription: false,
+        });
+    };
+    if !at.contains(share, client.as_str()) {
+        return Ok(Found {
+            filter: true,
+            subscription: false,
+        });
+    }
+    at.insert(alloc, share, client.clone()?, options)?;
+    Ok(Found {
+        filter: true,
+        subscription: true,
+    })
+}
+
+// Adds a subscription. Where the tree is known not to have its filter, that is not looked for.
+fn insert_in(
+    tree: &mut LevelTree<FilterEntry>,
+    alloc: Global,
+    has_filter: bool,
+    client: &RcStr,
+    sub_filter: &SubFilter,
+    options: SubscriptionOptions,
+) -> Result<(), AllocError>
+    requires kept { AreEntries tree.old }
+    requires absent { has_filter ≡ false
+        → lookup (is_key (levels sub_filter.now.filter)) tree.old ≡ None }
     ensures ok { OnOk result (SameInTurn (all_rows tree.new)
         (upsert (sub_filter_row (rc_str_bytes client.now) sub_filter.now options)
         (all_rows tree.old))) }
@@ -243,6 +302,9 @@ fn insert_in(
     ensures kept { AreEntries tree.new }
 {
     let client = client.clone()?;
+    if !has_filter {
+        return add_in(tree, alloc, client, sub_filter, options);
+    }
     match tree.get_mut(&sub_filter.filter) {
         Some(at) => at.insert(alloc, sub_filter.share.as_deref(), client, options),
         None => add_in(tree, alloc, client, sub_filter, options),
