@@ -1,6 +1,6 @@
 -- The pairs of the index beside the messages: what an edit of both leaves.
 use Rattle.std.proofs.Common.{◌≡◌, ◌≢◌, ℕ, Bool, true, false, cond, ◌&&◌, ◌||◌, not, List, Option}
-use Rattle.std.proofs.Common.{Some, None, refl, sym, ◌∙◌, ap, subst}
+use Rattle.std.proofs.Common.{[], Some, None, refl, sym, ◌∙◌, ap, subst, true≢false}
 use Rattle.std.specs.Option.{option_map, option_and_then, option_eq}
 use Rattle.std.specs.Bool.{nat_eq}
 use Rattle.std.specs.List.{filter}
@@ -266,3 +266,14 @@ taken-sound topic tree pairs new sound drops = record {
       (sym (take-retained topic tree sound.placed sound.ordered))
       (taken-indexed topic (retained_in tree) pairs new sound.indexed drops);
 }
+
+-- where there are no pairs, no message has a deadline
+pub none-indexed : (pairs : List Pair) (retained : List Retained) (topic : Text)
+    → Indexes pairs retained → pairs ≡ [] → None ≡ deadline_at topic retained
+none-indexed pairs retained topic indexed none =
+    let P : Option ℕ → Type 0 = λ o. deadline_at topic retained ≡ o → None ≡ o in
+    (elim (deadline_at topic retained) as P [
+      | None ↦ λ h. refl
+      | Some d ↦ λ h. absurd (true≢false (sym (eq-eqb d d refl) ∙ sym (ap (is_deadline d) h)
+          ∙ sym (indexed d topic) ∙ ap (has_pair d topic) none))
+    ]) refl

@@ -168,9 +168,13 @@ impl Retained {
         self.tree.get(topic).is_some()
     }
 
+    // Where no message has a deadline, none is looked up.
     fn deadline_at(&self, topic: &TopicName) -> Option<u64>
         ensures { result ≡ deadline_at topic.now self.now.messages }
     {
+        if self.deadlines.is_empty() {
+            return None;
+        }
         self.tree.get(topic)?.deadline
     }
 
