@@ -31,6 +31,9 @@ use mq_topic::{LevelText, TopicFilter, TopicName};
 use std::alloc::{AllocError, Global};
 use std::marker::Model;
 
+/// How many values a look-up by a filter has room for at first.
+const FOUND: usize = 16;
+
 /// A map from topic names or topic filters to values, as a tree with a node for each level. It is seen as the
 /// list of its entries in level order: level by level, each by its bytes.
 pub struct LevelTree<V> {
@@ -152,7 +155,7 @@ impl<V> LevelTree<V> {
             (met_by_filter (levels topic_filter.now) (prefixes (keys_of self.now)))) }
         ensures ordered { AreInOrder self.now }
     {
-        let mut found = Vec::new(self.alloc);
+        let mut found = Vec::with_capacity(self.alloc, FOUND)?;
         by_filter(&self.root, topic_filter.text(), &mut steps.walk, &mut found)?;
         Ok(found)
     }

@@ -18,7 +18,7 @@ returns-clause-found g c =
     let text = c.text.result.now in
     c.in_ok-by_filter.ensures.found
     ∙ ap (λ xs. map (λ (x : Bor g.row.V.Denot). x.now) xs
-    ++ values_at (matches (levels text)) (entries_of c.self.inside.root)) c.new-found.ensures.items
+    ++ values_at (matches (levels text)) (entries_of c.self.inside.root)) c.in_ok-found.ensures.items
     ∙ (λ i. values_at (matches (levels (c.text.ensures.text i))) (c.self.view_is i))
 
 pub returns-clause-count : goal.returns-clause-count
