@@ -65,7 +65,7 @@ MADE_OF = {
     "Group": "members: IndexMap<RcStr, SubscriptionOptions>",
     "Stored": "topic: Rc<TopicName>, payload: RcStr, qos: u8, publisher: RcStr, deadline: "
     "Option<u64>",
-    "Due": "deadline: u64, topic: TopicName",
+    "Due": "deadline: u64, topic: Rc<TopicName>",
     "Delivery": "client: RcStr, topic: Rc<TopicName>, payload: RcStr, qos: u8, retain: bool, "
     "expiry: Option<u32>, ids: Vec<u32>, group: Option<(RcStr, Rc<TopicFilter>)>",
     "TopicName": "text: String",

@@ -30,20 +30,20 @@ use Rattle.mq_retained.specs.declared.retained.deadlines.Due.{Due}
 -- ## The order of the pairs
 
 abbrev pub due_cmp : Due → Due → Ordering
-due_cmp = then_cmp (on (λ due. due.deadline) nat_cmp) (on (λ due. due.topic) text_cmp)
+due_cmp = then_cmp (on (λ due. due.deadline) nat_cmp) (on (λ due. due.topic.value) text_cmp)
 
 due_total : IsTotalOrder due_cmp
-due_total = then_total (on_total (λ due. due.deadline) nat_cmp_total) (on_texts (λ due. due.topic))
+due_total = then_total (on_total (λ due. due.deadline) nat_cmp_total) (on_texts (λ due. due.topic.value))
 
 same_numbers : (a b : ℕ) → is_eq (nat_cmp a b) ≡ eqb a b
 same_numbers a b = grind (arith, nat_tests)
 
 -- a key ties with those of its pair alone
-tied_is : (a b : Due) → is_eq (due_cmp a b) ≡ is_pair b.deadline b.topic (due_of a)
+tied_is : (a b : Due) → is_eq (due_cmp a b) ≡ is_pair b.deadline b.topic.value (due_of a)
 tied_is a b =
-    sym (tied_then (nat_cmp a.deadline b.deadline) (text_cmp a.topic b.topic))
-    ∙ ap (λ v. v && is_eq (text_cmp a.topic b.topic)) (same_numbers a.deadline b.deadline)
-    ∙ ap (λ v. eqb a.deadline b.deadline && v) (is_eq-slice_cmp a.topic b.topic)
+    sym (tied_then (nat_cmp a.deadline b.deadline) (text_cmp a.topic.value b.topic.value))
+    ∙ ap (λ v. v && is_eq (text_cmp a.topic.value b.topic.value)) (same_numbers a.deadline b.deadline)
+    ∙ ap (λ v. eqb a.deadline b.deadline && v) (is_eq-slice_cmp a.topic.value b.topic.value)
 
 -- a pair that passes the test is the one that it tests for
 pub pair-is : (d : ℕ) (topic : Text) (p : Pair) → is_pair d topic p ≡ true → p ≡ (d, topic)
@@ -58,7 +58,7 @@ pub own-pair : (d : ℕ) (topic : Text) → is_pair d topic (d, topic) ≡ true
 own-pair d topic = rw (eq-eqb d d refl, (bytes_eq-Decides topic topic).1 refl) refl
 
 tied-pairs : (a b : Due) → due_cmp a b ≡ Equal → due_of a ≡ due_of b
-tied-pairs a b h = pair-is b.deadline b.topic (due_of a) (sym (tied_is a b) ∙ ap is_eq h)
+tied-pairs a b h = pair-is b.deadline b.topic.value (due_of a) (sym (tied_is a b) ∙ ap is_eq h)
 
 -- ## A pair that joins
 
@@ -112,22 +112,22 @@ has-remove due dues s = λ d topic.
 
 -- no pair after the first is like it
 first-apart : (first : Due) (dues : List Due) → AllByRecursion (IsLtBy due_cmp first) dues
-    → has_pair first.deadline first.topic (map due_of dues) ≡ false
+    → has_pair first.deadline first.topic.value (map due_of dues) ≡ false
 first-apart first [] h = refl
 first-apart first (x ∷ xs) h =
-    let tied : is_pair first.deadline first.topic (due_of x) ≡ false = sym (tied_is x first)
+    let tied : is_pair first.deadline first.topic.value (due_of x) ≡ false = sym (tied_is x first)
     ∙ ap is_eq (due_total.antisymm x first) ∙ rw h.0 refl in
     rw (tied, first-apart first xs h.1) refl
 
 -- the first pair, if it is due, is taken out as one that is due
 pub first-taken : (moment : ℕ) (first : Due) (dues : List Due) → first.deadline ≤ moment
     → AllByRecursion (IsLtBy due_cmp first) dues
-    → TakesDue moment first.topic (map due_of (first ∷ dues)) (map due_of dues)
+    → TakesDue moment first.topic.value (map due_of (first ∷ dues)) (map due_of dues)
 first-taken moment first dues due above = record {
   deadline = first.deadline;
   due = due;
-  was_there = ap (λ b. b || has_pair first.deadline first.topic (map due_of dues))
-      (own-pair first.deadline first.topic);
+  was_there = ap (λ b. b || has_pair first.deadline first.topic.value (map due_of dues))
+      (own-pair first.deadline first.topic.value);
   leaves = λ d topic.
       let rest : Bool = has_pair d topic (map due_of dues) in
       let P : Bool → Type 0 = λ b. is_pair d topic (due_of first) ≡ b

@@ -122,7 +122,8 @@ pub nobody-due : (moment : ℕ) (tree : Entries Stored) → AreInOrder tree → 
 unfolding IsStrictlySortedBy
 nobody-due moment [] ordered placed later = tt
 nobody-due moment (e ∷ es) ordered placed later =
-    let own : (d : ℕ) → is_deadline d e.1.deadline ≡ true → moment < d = λ d h. later d e.1.topic.value
+    let own : (d : ℕ) → is_deadline d e.1.deadline ≡ true → moment < d =
+    λ d h. later d e.1.topic.value
     (ap (λ b. is_deadline d (option_and_then (λ (k : Retained). k.deadline)
     (cond b (Some (view e)) (find (has_topic e.1.topic.value) (retained_in es)))))
     (own-topic (view e)) ∙ h) in

@@ -1,6 +1,6 @@
 -- The tree of retained messages as a list of messages in the order of their topics.
 use Rattle.std.proofs.Common.{◌≡◌, ℕ, Bool, true, false, cond, not, List, [], ◌∷◌, map, Some, refl}
-use Rattle.std.proofs.Common.{sym, ◌∙◌, ap, subst}
+use Rattle.std.proofs.Common.{sym, ◌∙◌, ap, subst, Option}
 use Rattle.std.specs.declared.cmp.Ordering.{Ordering}
 use Rattle.std.specs.declared.cmp.Ordering.TheVariants.{Less, Equal, Greater}
 use Rattle.std.specs.Ordering.{is_eq, match_ordering}
@@ -23,7 +23,7 @@ use Rattle.mq_retained.specs.Stored.{message_in, retained_in, IsPlaced}
 use Rattle.mq_world.proofs.ListLemmas.{map-insert_entry, map-insert_entry_among}
 use Rattle.mq_world.proofs.ListLemmas.{remove_entry-filter, map-filter}
 use Rattle.mq_world.proofs.OrderLemmas.{levels_total, level_equal, equal_from, sorted-with_row}
-use Rattle.mq_world.proofs.OrderLemmas.{all_filtered, text_flip}
+use Rattle.mq_world.proofs.OrderLemmas.{all_filtered, text_flip, same_text-is}
 use Rattle.mq_retained.specs.declared.retained.stored.Stored.{Stored}
 
 abbrev pub Entry : Type 0
@@ -45,8 +45,8 @@ agrees e d p q = ap (λ k. level_order k (levels d.1.topic.value)) (sym p)
     ∙ ap (λ k. level_order e.0 k) (sym q)
 
 -- to insert at the key of a message's topic is to put the message among the others
-pub put-retained : (k : List (List ℕ)) (s : Stored) (tree : Entries Stored) → k ≡ levels s.topic.value
-    → IsPlaced tree → AreInOrder tree → retained_in (insert_entry level_order tree k s)
+pub put-retained : (k : List (List ℕ)) (s : Stored) (tree : Entries Stored)
+    → k ≡ levels s.topic.value → IsPlaced tree → AreInOrder tree → retained_in (insert_entry level_order tree k s)
     ≡ with_row retained_cmp (message_in s) (retained_in tree)
 put-retained k s tree here placed ordered =
     map-insert_entry_among level_order levels_total view retained_cmp Stands agrees
@@ -83,6 +83,22 @@ pub key-is : (topic : Text) (e : Entry) → Stands e
 key-is topic e h =
     ap (λ k. is_eq (level_order (levels topic) k)) h ∙ level_equal topic e.1.topic.value
     ∙ text_flip topic e.1.topic.value
+
+some_is : (x y : Stored) → ◌≡◌ {A = Option Stored} (Some x) (Some y) → x ≡ y
+some_is x y h = cc
+
+-- what stands at the key of a topic has that topic
+pub found-topic : (topic : Text) (tree : Entries Stored) (s : Stored) → IsPlaced tree
+    → lookup (is_key (levels topic)) tree ≡ Some s → s.topic.value ≡ topic
+found-topic topic [] s placed h = cc
+found-topic topic (e ∷ es) s placed h =
+    let P : Bool → Type 0 = λ b. is_key (levels topic) e.0 ≡ b
+    → cond b (Some e.1) (lookup (is_key (levels topic)) es) ≡ Some s → s.topic.value ≡ topic in
+    (elim (is_key (levels topic) e.0) as P [
+      | true ↦ λ here found. subst (λ (x : Stored). x.topic.value ≡ topic) (some_is e.1 s found)
+          (same_text-is e.1.topic.value topic (sym (key-is topic e placed.0) ∙ here))
+      | false ↦ λ other found. found-topic topic es s placed.1 found
+    ]) refl h
 
 key-apart : (k x y : List (List ℕ)) → is_key k x ≡ true → level_order x y ≡ Less
     → is_key k y ≡ false

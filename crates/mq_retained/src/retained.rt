@@ -37,6 +37,7 @@ use mq_tree::Steps;
 use mq_world::{Delivery, Message};
 use std::alloc::{AllocError, Global};
 use std::marker::Model;
+use std::rc::Rc;
 use stored::Stored;
 
 /// One message for a topic, each with a deadline or none. It is seen as the list of the messages by
@@ -178,6 +179,20 @@ impl Retained {
         self.tree.get(topic)?.deadline
     }
 
+    // The pair of the topic's message, if it has one.
+    fn due_at(&self, topic: &TopicName) -> Result<Option<Due>, AllocError>
+        ensures { IfOk result (λ due. option_map due_of due
+            ≡ option_map (λ d. (d, topic.now)) (deadline_at topic.now self.now.messages)) }
+    {
+        if self.deadlines.is_empty() {
+            return Ok(None);
+        }
+        match self.tree.get(topic) {
+            None => Ok(None),
+            Some(stored) => Due::of(stored.deadline, &stored.topic),
+        }
+    }
+
     // Stores a message, in place of an older one of its topic. What takes memory comes first, but
     // for the tree's entry: where that is refused the topic had none, and the new deadline is
     // removed again.
@@ -189,13 +204,13 @@ impl Retained {
         ensures err { OnErr result (self.new ≡ self.old) }
     {
         let stored = Stored::from_message(self.alloc, message)?;
-        let new = Due::of(message.deadline, message.topic)?;
+        let new = Due::of(message.deadline, &stored.topic)?;
         let older = replaced(
             self.deadline_at(message.topic),
             message.deadline,
-            message.topic,
+            &stored.topic,
         )?;
-        self.deadlines.insert(message.deadline, message.topic)?;
+        self.deadlines.insert(message.deadline, &stored.topic)?;
         match self.tree.put(message.topic, stored) {
             Err(fault) => {
                 self.deadlines.remove(&new);
@@ -215,7 +230,7 @@ impl Retained {
         ensures filed { OnOk result (AreFiled self.new) }
         ensures err { OnErr result (self.new ≡ self.old) }
     {
-        let older = Due::of(self.deadline_at(topic), topic)?;
+        let older = self.due_at(topic)?;
         let _ = self.tree.take(topic);
         self.deadlines.remove(&older);
         Ok(())
@@ -235,10 +250,11 @@ fn is_stored(message: &Message) -> bool
 fn replaced(
     older: Option<u64>,
     new: Option<u64>,
-    topic: &TopicName,
+    topic: &Rc<TopicName>,
 ) -> Result<Option<Due>, AllocError>
     ensures { IfOk result (λ due. option_map due_of due
-        ≡ (if option_eq nat_eq older new then None else option_map (λ d. (d, topic.now)) older)) }
+        ≡ (if option_eq nat_eq older new then None
+        else option_map (λ d. (d, topic.now.value)) older)) }
 {
     if older == new {
         return Ok(None);

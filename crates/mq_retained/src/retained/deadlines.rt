@@ -11,19 +11,23 @@ use mq_tree::Steps;
 use std::alloc::{AllocError, Global};
 use std::collections::BTreeSet;
 use std::marker::Model;
+use std::rc::Rc;
 
 /// A deadline, and the topic that it concerns.
 #[derive(Drop, PartialEq, Eq, PartialOrd, Ord)]
 pub(crate) struct Due {
     deadline: u64,
-    topic: TopicName,
+    topic: Rc<TopicName>,
 }
 
 impl Due {
-    /// The pair of a message with a deadline.
-    pub(crate) fn of(deadline: Option<u64>, topic: &TopicName) -> Result<Option<Due>, AllocError>
+    /// The pair of a message with a deadline. It shares the topic.
+    pub(crate) fn of(
+        deadline: Option<u64>,
+        topic: &Rc<TopicName>,
+    ) -> Result<Option<Due>, AllocError>
         ensures { IfOk result (λ due. option_map due_of due
-            ≡ option_map (λ d. (d, topic.now)) deadline) }
+            ≡ option_map (λ d. (d, topic.now.value)) deadline) }
     {
         match deadline {
             None => Ok(None),
@@ -71,10 +75,10 @@ impl Deadlines {
     pub(crate) fn insert(
         &mut self,
         deadline: Option<u64>,
-        topic: &TopicName,
+        topic: &Rc<TopicName>,
     ) -> Result<(), AllocError>
         ensures ok { OnOk result
-            (Adds (option_map (λ d. (d, topic.now)) deadline) self.old self.new) }
+            (Adds (option_map (λ d. (d, topic.now.value)) deadline) self.old self.new) }
         ensures err { OnErr result (self.new ≡ self.old) }
     {
         let Some(due) = Due::of(deadline, topic)? else {
@@ -97,8 +101,8 @@ impl Deadlines {
     }
 
     /// Takes the first pair out if its deadline is at the moment or before it.
-    pub(crate) fn take_due(&mut self, moment: u64, steps: &mut Steps) -> Option<TopicName>
-        ensures some { IfSome result (λ topic. TakesDue moment topic self.old self.new) }
+    pub(crate) fn take_due(&mut self, moment: u64, steps: &mut Steps) -> Option<Rc<TopicName>>
+        ensures some { IfSome result (λ topic. TakesDue moment topic.value self.old self.new) }
         ensures none { IfNone result (NoneDue moment self.old) }
         ensures stays { IfNone result (self.new ≡ self.old) }
         ensures count { steps.new ≡ steps.old + (if is_some result then 1 else 0) }

@@ -13,8 +13,8 @@ pub loop-topic-smaller : goal.loop-topic-smaller
 loop-topic-smaller c =
     let one : OneDue c.args.moment c.loop-topic.self-inside.tree c.take.new.self =
     subst (λ (rest : Entries Stored). OneDue c.args.moment c.loop-topic.self-inside.tree rest)
-    (sym c.take.ensures.rest)
-    (one-due c.args.moment c.in-Some.topic c.loop-topic.self-inside.tree
+    (sym (rw c.deref.ensures at c.take.ensures.rest))
+    (one-due c.args.moment c.in-Some.topic.value c.loop-topic.self-inside.tree
     c.loop-topic.self-inside.deadlines
     c.take_due.new.self c.loop-topic.invariant.sound c.in-Some.ensures.some) in
     let fewer : suc (length c.take.new.self) ≡ length c.loop-topic.self-inside.tree = one.fewer in
@@ -24,8 +24,8 @@ pub loop-topic-preserved : goal.loop-topic-preserved
 loop-topic-preserved c =
     let one : OneDue c.args.moment c.loop-topic.self-inside.tree c.take.new.self =
     subst (λ (rest : Entries Stored). OneDue c.args.moment c.loop-topic.self-inside.tree rest)
-    (sym c.take.ensures.rest)
-    (one-due c.args.moment c.in-Some.topic c.loop-topic.self-inside.tree
+    (sym (rw c.deref.ensures at c.take.ensures.rest))
+    (one-due c.args.moment c.in-Some.topic.value c.loop-topic.self-inside.tree
     c.loop-topic.self-inside.deadlines
     c.take_due.new.self c.loop-topic.invariant.sound c.in-Some.ensures.some) in
     let counted : suc (length (filter (is_due c.args.moment) (retained_in c.take.new.self)))
@@ -38,8 +38,8 @@ loop-topic-preserved c =
     c.loop-topic.invariant.count in
     record {
       sound = subst (λ (rest : Entries Stored). IsSound rest c.take_due.new.self)
-          (sym c.take.ensures.rest)
-          (due-sound c.args.moment c.in-Some.topic c.loop-topic.self-inside.tree
+          (sym (rw c.deref.ensures at c.take.ensures.rest))
+          (due-sound c.args.moment c.in-Some.topic.value c.loop-topic.self-inside.tree
           c.loop-topic.self-inside.deadlines
           c.take_due.new.self c.loop-topic.invariant.sound c.in-Some.ensures.some);
       rest = one.kept ∙ c.loop-topic.invariant.rest;

@@ -17,9 +17,8 @@ invariant_of-self c =
     (taken-sound topic c.self.inside.tree c.self.inside.deadlines c.remove.new.self c.self.invariant
     (subst (λ (older : Option Pair). Drops older c.self.inside.deadlines c.remove.new.self)
     (c.in_ok-older.ensures
-    ∙ ap (λ d. pair_at d topic)
-    (c.deadline_at.ensures
-    ∙ ap (λ (k : RetainedView). deadline_at topic k.messages) (sym c.self.view_is)))
+    ∙ ap (λ (k : RetainedView). pair_at (deadline_at topic k.messages) topic)
+    (sym c.self.view_is))
     c.remove.ensures))
 
 pub returns-clause-ok : goal.returns-clause-ok
@@ -38,7 +37,6 @@ returns-clause-filed c =
     (taken-sound topic c.self.inside.tree c.self.inside.deadlines c.remove.new.self c.self.invariant
     (subst (λ (older : Option Pair). Drops older c.self.inside.deadlines c.remove.new.self)
     (c.in_ok-older.ensures
-    ∙ ap (λ d. pair_at d topic)
-    (c.deadline_at.ensures
-    ∙ ap (λ (k : RetainedView). deadline_at topic k.messages) (sym c.self.view_is)))
+    ∙ ap (λ (k : RetainedView). pair_at (deadline_at topic k.messages) topic)
+    (sym c.self.view_is))
     c.remove.ensures)))

@@ -1,8 +1,8 @@
-use Rattle.std.proofs.Common.{◌∙◌, ap, sym, subst, Option, rules}
+use Rattle.std.proofs.Common.{◌≡◌, ◌∙◌, ap, sym, subst, Option, rules}
 use Rattle.mq_tree.specs.Entries.{Entries}
 use Rattle.mq_world.specs.Lists.{with_row}
 use Rattle.mq_world.specs.World.{Retained, retained_cmp}
-use Rattle.mq_retained.specs.Stored.{stored_until, retained_in, IsSound, RetainedView}
+use Rattle.mq_retained.specs.Stored.{message_in, stored_until, retained_in, IsSound, RetainedView}
 use Rattle.mq_retained.specs.Deadlines.{Pair, Drops, deadline_at}
 use Rattle.mq_world.specs.Views.{message_of}
 use Rattle.mq_retained.proofs.FiledLemmas.{same-kept, sound-filed}
@@ -11,15 +11,19 @@ use Rattle.mq_retained.proofs.IndexLemmas.{undone-pairs}
 use Rattle.mq_retained.specs.declared.retained.stored.Stored.{Stored}
 use Rattle.mq_retained.proofs.retained.Retained.store.Goals as goal
 
+-- what is stored has the topic of the message
+topic_is : (s : Stored) (kept : Retained) → message_in s ≡ kept → s.topic.value ≡ kept.topic
+topic_is s kept h = ap (λ (k : Retained). k.topic) h
+
 pub invariant_of-self-in-Err : goal.invariant_of-self-in-Err
 invariant_of-self-in-Err c =
     let pairs = c.self.inside.deadlines in
     subst (λ (tree : Entries Stored). IsSound tree c.remove.new.self) (sym c.in-Err.ensures.err)
     (undone-sound c.args.message.now.deadline c.args.message.now.topic.now c.self.inside.tree pairs
     c.insert.new.self c.remove.new.self
-    c.in-Err.ensures.absent c.self.invariant c.in_ok-insert.ensures.ok
+    c.in-Err.ensures.absent c.self.invariant (rw (topic_is c.in_ok-stored.stored _ c.in_ok-stored.ensures) at c.in_ok-insert.ensures.ok)
     (subst (λ (pair : Option Pair). Drops pair c.insert.new.self c.remove.new.self)
-    c.in_ok-new.ensures
+    (rw (topic_is c.in_ok-stored.stored _ c.in_ok-stored.ensures) at c.in_ok-new.ensures)
     c.remove.ensures))
 
 pub invariant_of-self-in-Ok : goal.invariant_of-self-in-Ok
@@ -30,9 +34,9 @@ invariant_of-self-in-Ok c =
     subst (λ (tree : Entries Stored). IsSound tree c.remove-in-Ok.new.self) (sym c.in-Ok.ensures.ok)
     (stored-sound c.in_ok-stored.stored kept c.self.inside.tree c.self.inside.deadlines
     c.insert.new.self c.remove-in-Ok.new.self
-    c.in_ok-stored.ensures c.self.invariant c.in_ok-insert.ensures.ok
+    c.in_ok-stored.ensures c.self.invariant (rw (topic_is c.in_ok-stored.stored _ c.in_ok-stored.ensures) at c.in_ok-insert.ensures.ok)
     (subst (λ (pair : Option Pair). Drops pair c.insert.new.self c.remove-in-Ok.new.self)
-    (c.in_ok-older.ensures
+    (rw (topic_is c.in_ok-stored.stored _ c.in_ok-stored.ensures) at c.in_ok-older.ensures
     ∙ ap (λ older. replaced older c.args.message.now.deadline topic)
     (c.deadline_at.ensures
     ∙ ap (λ (k : RetainedView). deadline_at topic k.messages) (sym c.self.view_is)))
@@ -53,9 +57,9 @@ returns-in-Err-clause-err c =
     c.in-Err.ensures.err
     (undone-pairs c.args.message.now.deadline c.args.message.now.topic.now c.self.inside.tree
     c.self.inside.deadlines c.insert.new.self c.remove.new.self
-    c.in-Err.ensures.absent c.self.invariant c.in_ok-insert.ensures.ok
+    c.in-Err.ensures.absent c.self.invariant (rw (topic_is c.in_ok-stored.stored _ c.in_ok-stored.ensures) at c.in_ok-insert.ensures.ok)
     (subst (λ (pair : Option Pair). Drops pair c.insert.new.self c.remove.new.self)
-    c.in_ok-new.ensures c.remove.ensures))
+    (rw (topic_is c.in_ok-stored.stored _ c.in_ok-stored.ensures) at c.in_ok-new.ensures) c.remove.ensures))
     ∙ c.self.view_is
 
 pub returns-clause-filed : goal.returns-clause-filed
@@ -68,9 +72,9 @@ returns-clause-filed c =
     (sym c.in-Ok.ensures.ok)
     (stored-sound c.in_ok-stored.stored kept c.self.inside.tree c.self.inside.deadlines
     c.insert.new.self c.remove-in-Ok.new.self
-    c.in_ok-stored.ensures c.self.invariant c.in_ok-insert.ensures.ok
+    c.in_ok-stored.ensures c.self.invariant (rw (topic_is c.in_ok-stored.stored _ c.in_ok-stored.ensures) at c.in_ok-insert.ensures.ok)
     (subst (λ (pair : Option Pair). Drops pair c.insert.new.self c.remove-in-Ok.new.self)
-    (c.in_ok-older.ensures
+    (rw (topic_is c.in_ok-stored.stored _ c.in_ok-stored.ensures) at c.in_ok-older.ensures
     ∙ ap (λ older. replaced older c.args.message.now.deadline topic)
     (c.deadline_at.ensures
     ∙ ap (λ (k : RetainedView). deadline_at topic k.messages) (sym c.self.view_is)))

@@ -22,7 +22,7 @@ returns-clause-some c =
     head-is c.self.inside.pairs.keys first rest _ whole c.in_ok-first.ensures.first in
     let due : first.deadline ≤ c.args.moment =
     subst (λ due. due.deadline ≤ c.args.moment) is_first (omega arith) in
-    subst (λ (pairs : List Pair). TakesDue c.args.moment first.topic pairs (map due_of rest))
+    subst (λ (pairs : List Pair). TakesDue c.args.moment first.topic.value pairs (map due_of rest))
     (ap (map due_of) (sym whole) ∙ c.self.view_is)
     (first-taken c.args.moment first rest due
     (recursion_from_All (IsLtBy due_cmp first) rest c.in_ok-due.ensures.all_above))
