@@ -1,6 +1,6 @@
 -- The pairs of the index beside the messages: what an edit of both leaves.
 use Rattle.std.proofs.Common.{◌≡◌, ◌≢◌, ℕ, Bool, true, false, cond, ◌&&◌, ◌||◌, not, List, Option}
-use Rattle.std.proofs.Common.{[], Some, None, refl, sym, ◌∙◌, ap, subst, true≢false}
+use Rattle.std.proofs.Common.{Some, None, refl, sym, ◌∙◌, ap, subst}
 use Rattle.std.specs.Option.{option_map, option_and_then, option_eq}
 use Rattle.std.specs.Bool.{nat_eq}
 use Rattle.std.specs.List.{filter}
@@ -16,7 +16,8 @@ use Rattle.mq_world.specs.Retained.{has_topic}
 use Rattle.mq_retained.specs.Deadlines.{Pair, has_pair, names, Adds, Drops, deadline_at}
 use Rattle.mq_retained.specs.Deadlines.{is_deadline, Indexes, SamePairs}
 use Rattle.mq_retained.specs.Stored.{message_in, retained_in, IsPlaced, IsSound}
-use Rattle.mq_retained.proofs.RetainedLemmas.{found-retained, put-retained, put-ordered, put-placed}
+use Rattle.mq_retained.proofs.RetainedLemmas.{found-retained, found-topic}
+use Rattle.mq_retained.proofs.RetainedLemmas.{put-retained, put-ordered, put-placed}
 use Rattle.mq_retained.proofs.RetainedLemmas.{take-retained, take-ordered, take-placed}
 use Rattle.mq_retained.proofs.FindLemmas.{topic-is, deadline-with_row, deadline-without}
 use Rattle.mq_retained.specs.declared.retained.stored.Stored.{Stored}
@@ -267,13 +268,30 @@ taken-sound topic tree pairs new sound drops = record {
       (taken-indexed topic (retained_in tree) pairs new sound.indexed drops);
 }
 
--- where there are no pairs, no message has a deadline
-pub none-indexed : (pairs : List Pair) (retained : List Retained) (topic : Text)
-    → Indexes pairs retained → pairs ≡ [] → None ≡ deadline_at topic retained
-none-indexed pairs retained topic indexed none =
-    let P : Option ℕ → Type 0 = λ o. deadline_at topic retained ≡ o → None ≡ o in
-    (elim (deadline_at topic retained) as P [
-      | None ↦ λ h. refl
-      | Some d ↦ λ h. absurd (true≢false (sym (eq-eqb d d refl) ∙ sym (ap (is_deadline d) h)
-          ∙ sym (indexed d topic) ∙ ap (has_pair d topic) none))
-    ]) refl
+-- ## The pair of what was found
+
+-- what is made of the deadline and the topic of what a look-up finds, and of nothing else, is made
+-- of those of the topic's message
+pub found-pair : (F : Option ℕ → Text → Option Pair) → ((t : Text) → F None t ≡ None)
+    → (topic : Text) (tree : Entries Stored) (found : Option Stored) → IsPlaced tree
+    → found ≡ lookup (is_key (levels topic)) tree
+    → option_and_then (λ (s : Stored). F s.deadline s.topic.value) found
+    ≡ F (deadline_at topic (retained_in tree)) topic
+found-pair F none topic tree found placed h =
+    let deadline = ap (option_and_then (λ (k : Retained). k.deadline))
+    (ap (option_map message_in) h ∙ found-retained topic tree placed) in
+    let P : Option Stored → Type 0 = λ o. found ≡ o
+    → option_and_then (λ (k : Retained). k.deadline) (option_map message_in o)
+    ≡ deadline_at topic (retained_in tree)
+    → option_and_then (λ (s : Stored). F s.deadline s.topic.value) o
+    ≡ F (deadline_at topic (retained_in tree)) topic in
+    (elim found as P [
+      | None ↦ λ is d. sym (none topic) ∙ ap (λ o. F o topic) d
+      | Some s ↦ λ is d. ap (F s.deadline) (found-topic topic tree s placed (sym h ∙ is))
+          ∙ ap (λ o. F o topic) d
+    ]) refl deadline
+
+-- where there was no deadline, no pair is replaced
+pub replaced-none : (new : Option ℕ) (topic : Text) → replaced None new topic ≡ None
+replaced-none None topic = refl
+replaced-none (Some n) topic = refl

@@ -10,7 +10,7 @@
 ghost use Rattle.std.specs.Prelude.{◌≡◌, ◌+◌, ◌<◌, ◌^◌, ℕ, [], length, not, OnOk, OnErr, IfOk};
 ghost use Rattle.std.specs.Prelude.{IfSome, None, nat_eq, if◌then◌else◌};
 ghost use Rattle.std.specs.List.{filter, list_any};
-ghost use Rattle.std.specs.Option.{option_map, option_eq};
+ghost use Rattle.std.specs.Option.{option_and_then, option_map, option_eq};
 ghost use Rattle.mq_topic.specs.Prefixes.{capped};
 ghost use Rattle.mq_topic.specs.Prefixes.{prefixes};
 ghost use Rattle.mq_world.specs.Clock.{deadline_of};
@@ -37,7 +37,6 @@ use mq_tree::Steps;
 use mq_world::{Delivery, Message};
 use std::alloc::{AllocError, Global};
 use std::marker::Model;
-use std::rc::Rc;
 use stored::Stored;
 
 /// One message for a topic, each with a deadline or none. It is seen as the list of the messages by
@@ -102,7 +101,8 @@ impl Retained {
             return Ok(());
         }
         if !is_stored(message) {
-            return self.clear(message.topic);
+            self.clear(message.topic);
+            return Ok(());
         }
         self.store(message)
     }
@@ -169,30 +169,6 @@ impl Retained {
         self.tree.get(topic).is_some()
     }
 
-    // Where no message has a deadline, none is looked up.
-    fn deadline_at(&self, topic: &TopicName) -> Option<u64>
-        ensures { result ≡ deadline_at topic.now self.now.messages }
-    {
-        if self.deadlines.is_empty() {
-            return None;
-        }
-        self.tree.get(topic)?.deadline
-    }
-
-    // The pair of the topic's message, if it has one.
-    fn due_at(&self, topic: &TopicName) -> Result<Option<Due>, AllocError>
-        ensures { IfOk result (λ due. option_map due_of due
-            ≡ option_map (λ d. (d, topic.now)) (deadline_at topic.now self.now.messages)) }
-    {
-        if self.deadlines.is_empty() {
-            return Ok(None);
-        }
-        match self.tree.get(topic) {
-            None => Ok(None),
-            Some(stored) => Due::of(stored.deadline, &stored.topic),
-        }
-    }
-
     // Stores a message, in place of an older one of its topic. What takes memory comes first, but
     // for the tree's entry: where that is refused the topic had none, and the new deadline is
     // removed again.
@@ -205,35 +181,27 @@ impl Retained {
     {
         let stored = Stored::from_message(self.alloc, message)?;
         let new = Due::of(message.deadline, &stored.topic)?;
-        let older = replaced(
-            self.deadline_at(message.topic),
-            message.deadline,
-            &stored.topic,
-        )?;
         self.deadlines.insert(message.deadline, &stored.topic)?;
         match self.tree.put(message.topic, stored) {
             Err(fault) => {
                 self.deadlines.remove(&new);
                 Err(fault)
             }
-            Ok(_) => {
-                self.deadlines.remove(&older);
+            Ok(older) => {
+                self.deadlines.remove(&replaced(older, message.deadline));
                 Ok(())
             }
         }
     }
 
     // Clears the message of a topic, if there is one.
-    fn clear(&mut self, topic: &TopicName) -> Result<(), AllocError>
-        ensures ok { OnOk result (self.new.messages
-            ≡ filter (λ kept. not (has_topic topic.now kept)) self.old.messages) }
-        ensures filed { OnOk result (AreFiled self.new) }
-        ensures err { OnErr result (self.new ≡ self.old) }
+    fn clear(&mut self, topic: &TopicName)
+        ensures rest { self.new.messages
+            ≡ filter (λ kept. not (has_topic topic.now kept)) self.old.messages }
+        ensures filed { AreFiled self.new }
     {
-        let older = self.due_at(topic)?;
-        let _ = self.tree.take(topic);
-        self.deadlines.remove(&older);
-        Ok(())
+        let gone = self.tree.take(topic);
+        self.deadlines.remove(&due_of_gone(gone));
     }
 }
 
@@ -246,18 +214,27 @@ fn is_stored(message: &Message) -> bool
         && !message.expiry.is_some_and(|seconds| seconds == 0)
 }
 
-// The pair of the older message, unless it is the pair of the new one.
-fn replaced(
-    older: Option<u64>,
-    new: Option<u64>,
-    topic: &Rc<TopicName>,
-) -> Result<Option<Due>, AllocError>
-    ensures { IfOk result (λ due. option_map due_of due
-        ≡ (if option_eq nat_eq older new then None
-        else option_map (λ d. (d, topic.now.value)) older)) }
+// The pair of a message that is gone, if there was one with a deadline.
+fn due_of_gone(gone: Option<Stored>) -> Option<Due>
+    ensures { option_map due_of result
+        ≡ option_and_then (λ s. option_map (λ d. (d, s.topic.value)) s.deadline) gone }
 {
-    if older == new {
-        return Ok(None);
+    match gone {
+        None => None,
+        Some(stored) => stored.into_due(),
     }
-    Due::of(older, topic)
+}
+
+// The pair of the older message, unless it is the pair of the new one, with this deadline.
+fn replaced(older: Option<Stored>, new: Option<u64>) -> Option<Due>
+    ensures { option_map due_of result ≡ option_and_then (λ s. if option_eq nat_eq s.deadline new
+        then None else option_map (λ d. (d, s.topic.value)) s.deadline) older }
+{
+    let Some(older) = older else {
+        return None;
+    };
+    if older.deadline == new {
+        return None;
+    }
+    older.into_due()
 }

@@ -1,7 +1,7 @@
 //! The deadlines of retained messages, in their order. The module hides its set: outside an edit by its key, a pair is
 //! reached only by `take_due`, which takes the first one out if it is due and ticks once for it.
 ghost use Rattle.std.specs.Prelude.{◌≡◌, ◌+◌, [], IfOk, OnOk, OnErr, IfSome, IfNone, is_some};
-ghost use Rattle.std.specs.Prelude.{if◌then◌else◌, IsTrue};
+ghost use Rattle.std.specs.Prelude.{if◌then◌else◌};
 ghost use Rattle.std.specs.Option.{option_map};
 ghost use Rattle.mq_retained.specs.Deadlines.{Adds, Drops, TakesDue, NoneDue};
 ghost use Rattle.mq_retained.specs.Due.{due_of};
@@ -21,6 +21,12 @@ pub(crate) struct Due {
 }
 
 impl Due {
+    pub(crate) fn new(deadline: u64, topic: Rc<TopicName>) -> Due
+        ensures { due_of result ≡ (deadline, topic.value) }
+    {
+        Due { deadline, topic }
+    }
+
     /// The pair of a message with a deadline. It shares the topic.
     pub(crate) fn of(
         deadline: Option<u64>,
@@ -63,12 +69,6 @@ impl Deadlines {
         Deadlines {
             pairs: BTreeSet::new(alloc),
         }
-    }
-
-    pub(crate) fn is_empty(&self) -> bool
-        ensures { IsTrue result → self.now ≡ [] }
-    {
-        self.pairs.is_empty()
     }
 
     /// Adds a pair, if there is one.

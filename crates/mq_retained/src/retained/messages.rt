@@ -62,12 +62,15 @@ impl Messages {
         self.by_topic.get(topic)
     }
 
-    /// Puts a message at its topic. Where there is no memory the topic has none.
+    /// Puts a message at its topic, and gives the older one. Where there is no memory the topic has
+    /// none.
     pub(crate) fn put(
         &mut self,
         topic: &TopicName,
         stored: Stored,
     ) -> Result<Option<Stored>, AllocError>
+        ensures older { IfOk result
+            (λ older. older ≡ lookup (is_key (levels topic.now)) self.old) }
         ensures ok { OnOk result
             (self.new ≡ insert_entry level_order self.old (levels topic.now) stored) }
         ensures err { OnErr result (self.new ≡ self.old) }

@@ -1,7 +1,10 @@
 ghost use Rattle.std.specs.Prelude.{◌≡◌, IfOk};
+ghost use Rattle.std.specs.Option.{option_map};
 ghost use Rattle.mq_world.specs.Views.{message_of};
+ghost use Rattle.mq_retained.specs.Due.{due_of};
 ghost use Rattle.mq_retained.specs.Stored.{message_in, stored_until};
 
+use crate::retained::deadlines::Due;
 use mq_topic::TopicName;
 use mq_world::Message;
 use std::alloc::{AllocError, Global};
@@ -42,5 +45,23 @@ impl Stored {
             publisher: message.publisher.clone()?,
             deadline: message.deadline,
         })
+    }
+
+    /// Its pair in the index of deadlines, if it has a deadline. It takes no memory.
+    pub(crate) fn into_due(self) -> Option<Due>
+        ensures { option_map due_of result
+            ≡ option_map (λ d. (d, self.topic.value)) self.deadline }
+    {
+        let Stored {
+            topic,
+            payload: _,
+            qos: _,
+            publisher: _,
+            deadline,
+        } = self;
+        match deadline {
+            None => None,
+            Some(deadline) => Some(Due::new(deadline, topic)),
+        }
     }
 }

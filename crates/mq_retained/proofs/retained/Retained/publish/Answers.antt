@@ -16,10 +16,9 @@ returns-then-not-message-clause-ok c =
 
 pub returns-then-not-is_stored-clause-near : goal.returns-then-not-is_stored-clause-near
 returns-then-not-is_stored-clause-near c =
-    on_ok_weaker c.clear.result (λ e moment due near.
-    subst (λ retained. AreNear moment retained) (sym e)
+    λ moment due near. subst (λ retained. AreNear moment retained) (sym c.clear.ensures.rest)
     (near-filter moment (λ kept. not (has_topic c.args.message.now.topic.now kept))
-    c.args.self.now.messages near)) c.clear.ensures.ok
+    c.args.self.now.messages near)
 
 pub returns-clause-near : goal.returns-clause-near
 returns-clause-near c =
@@ -32,9 +31,9 @@ returns-clause-near c =
 pub returns-then-not-is_stored-clause-ok : goal.returns-then-not-is_stored-clause-ok
 returns-then-not-is_stored-clause-ok c =
     let m : Message = message_of c.args.message.now in
-    on_ok_weaker c.clear.result (λ e now same.
-    e ∙ sym (after-by now c.args.self.now.messages m false c.if-not-message.false
-    (sym c.is_stored.ensures ∙ c.if-not-is_stored.true))) c.clear.ensures.ok
+    λ now same. c.clear.ensures.rest
+    ∙ sym (after-by now c.args.self.now.messages m false c.if-not-message.false
+    (sym c.is_stored.ensures ∙ c.if-not-is_stored.true))
 
 pub returns-clause-ok : goal.returns-clause-ok
 returns-clause-ok c =

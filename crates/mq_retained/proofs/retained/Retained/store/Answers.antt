@@ -3,10 +3,10 @@ use Rattle.mq_tree.specs.Entries.{Entries}
 use Rattle.mq_world.specs.Lists.{with_row}
 use Rattle.mq_world.specs.World.{Retained, retained_cmp}
 use Rattle.mq_retained.specs.Stored.{message_in, stored_until, retained_in, IsSound, RetainedView}
-use Rattle.mq_retained.specs.Deadlines.{Pair, Drops, deadline_at}
+use Rattle.mq_retained.specs.Deadlines.{Pair, Drops}
 use Rattle.mq_world.specs.Views.{message_of}
 use Rattle.mq_retained.proofs.FiledLemmas.{same-kept, sound-filed}
-use Rattle.mq_retained.proofs.IndexLemmas.{replaced, stored-sound, stored-retained, undone-sound}
+use Rattle.mq_retained.proofs.IndexLemmas.{found-pair, replaced, replaced-none, stored-sound, stored-retained, undone-sound}
 use Rattle.mq_retained.proofs.IndexLemmas.{undone-pairs}
 use Rattle.mq_retained.specs.declared.retained.stored.Stored.{Stored}
 use Rattle.mq_retained.proofs.retained.Retained.store.Goals as goal
@@ -36,10 +36,10 @@ invariant_of-self-in-Ok c =
     c.insert.new.self c.remove-in-Ok.new.self
     c.in_ok-stored.ensures c.self.invariant (rw (topic_is c.in_ok-stored.stored _ c.in_ok-stored.ensures) at c.in_ok-insert.ensures.ok)
     (subst (λ (pair : Option Pair). Drops pair c.insert.new.self c.remove-in-Ok.new.self)
-    (rw (topic_is c.in_ok-stored.stored _ c.in_ok-stored.ensures) at c.in_ok-older.ensures
-    ∙ ap (λ older. replaced older c.args.message.now.deadline topic)
-    (c.deadline_at.ensures
-    ∙ ap (λ (k : RetainedView). deadline_at topic k.messages) (sym c.self.view_is)))
+    (c.replaced.ensures
+    ∙ found-pair (λ o t. replaced o c.args.message.now.deadline t)
+    (replaced-none c.args.message.now.deadline) topic c.self.inside.tree c.in-Ok.older
+    c.self.invariant.placed c.in-Ok.ensures.older)
     c.remove-in-Ok.ensures))
 
 pub returns-clause-ok : goal.returns-clause-ok
@@ -74,10 +74,10 @@ returns-clause-filed c =
     c.insert.new.self c.remove-in-Ok.new.self
     c.in_ok-stored.ensures c.self.invariant (rw (topic_is c.in_ok-stored.stored _ c.in_ok-stored.ensures) at c.in_ok-insert.ensures.ok)
     (subst (λ (pair : Option Pair). Drops pair c.insert.new.self c.remove-in-Ok.new.self)
-    (rw (topic_is c.in_ok-stored.stored _ c.in_ok-stored.ensures) at c.in_ok-older.ensures
-    ∙ ap (λ older. replaced older c.args.message.now.deadline topic)
-    (c.deadline_at.ensures
-    ∙ ap (λ (k : RetainedView). deadline_at topic k.messages) (sym c.self.view_is)))
+    (c.replaced.ensures
+    ∙ found-pair (λ o t. replaced o c.args.message.now.deadline t)
+    (replaced-none c.args.message.now.deadline) topic c.self.inside.tree c.in-Ok.older
+    c.self.invariant.placed c.in-Ok.ensures.older)
     c.remove-in-Ok.ensures)))
 
 pub invariant_of-self : goal.invariant_of-self
