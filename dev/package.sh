@@ -1,6 +1,7 @@
 #!/usr/bin/env bash
-# Makes dist/mqroute_DATE.COMMIT_amd64.deb, and a .tar.gz of the same files, of what stands in bin/. DATE and COMMIT are the
-# last commit's, with a + behind them where files are changed. The same commit gives the same bytes.
+# Makes dist/mqroute_TIME.COMMIT_amd64.deb, and a .tar.gz of the same files, of what stands in bin/. TIME and COMMIT are the
+# last commit's, with a + behind them where files are changed. The same commit gives the same bytes. TIME goes to the second,
+# in UTC, so that a later commit has a later version. usage: package.sh [--version: print the version, and make nothing]
 set -euo pipefail
 cd "$(dirname "$0")/.."
 umask 022
@@ -9,7 +10,11 @@ commit=$(git rev-parse --short=7 HEAD)
 changed=$([ -z "$(git status --porcelain)" ] || echo +)
 SOURCE_DATE_EPOCH=$(git log -1 --format=%ct)
 export SOURCE_DATE_EPOCH
-version=$(date -u -d "@$SOURCE_DATE_EPOCH" +%Y%m%d).$commit$changed
+version=$(date -u -d "@$SOURCE_DATE_EPOCH" +%Y%m%d%H%M%S).$commit$changed
+if [ "${1:-}" = --version ]; then
+    echo "$version"
+    exit
+fi
 name=mqroute_${version}_amd64
 scratch=$(mktemp -d)
 trap 'rm -rf "$scratch"' EXIT
@@ -70,6 +75,16 @@ Description: shows which MQTT clients would receive what
  Tools make such a script of a mosquitto log, list who loses what under a new
  access list, and compare a live broker with mqroute.
 END
+# Where root runs a tool, Python keeps the modules compiled beside them, in files that dpkg doesn't know. They go before the
+# package does, and before a newer one comes. By find and not by py3clean: python3 may be gone by then, or never have been there.
+cat > "$root/DEBIAN/prerm" <<'END'
+#!/bin/sh
+set -e
+if [ -d "$DPKG_ROOT/usr/lib/mqroute" ]; then
+    find "$DPKG_ROOT/usr/lib/mqroute" -depth -name __pycache__ -exec rm -rf {} +
+fi
+END
+chmod 755 "$root/DEBIAN/prerm"
 (cd "$root" && find usr -type f -print0 | sort -z | xargs -0 md5sum) > "$root/DEBIAN/md5sums"
 find "$root" -exec touch -h -d "@$SOURCE_DATE_EPOCH" {} +
 dpkg-deb --root-owner-group -Zgzip --build "$root" "dist/$name.deb" > /dev/null
