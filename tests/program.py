@@ -21,7 +21,20 @@ ANSWER = '{"line":1,"reason":0}\n'
 SCRIPT = f'{CONNECT}\n{{"do":"publish","client":"a","topic":"b"}}\n'
 ALLOWED = ANSWER + '{"line":2,"reason":16}\n'
 DENIED = ANSWER + '{"code":11,"line":2,"refused":"NotAuthorized"}\n'
-FILES = {"script": SCRIPT.encode(), "list": b"topic a\n", "faulty": b"# c\n\ntopic a b",
+# More messages than may be retained, and a copy that may not wait.
+LIMITED = "\n".join([
+    CONNECT, '{"do":"connect","client":"b","session_expiry":60}',
+    '{"do":"subscribe","client":"b","filter":"t","qos":1}', '{"do":"disconnect","client":"b"}',
+    *(f'{{"do":"publish","client":"a","topic":"r/{i}","payload":"x","retain":true}}'
+      for i in range(6)),
+    '{"do":"publish","client":"a","topic":"t","qos":1}',
+    '{"do":"connect","client":"b","clean":false}'])
+REASONS = {1: 0, 2: 0, 3: 1, 4: 0, 5: 16, 6: 16, 7: 16, 8: 16, 9: 16, 10: None, 11: 16, 12: 0}
+AT_LIMITS = "".join(f'{{"line":{line},"reason":{reason}}}\n' if reason is not None else
+                    f'{{"code":14,"line":{line},"refused":"RetainedFull"}}\n'
+                    for line, reason in REASONS.items())
+FILES = {"script": SCRIPT.encode(), "limited": LIMITED.encode(), "empty": b"",
+         "blank": b"\n \n\r\n", "last": f"\n\n{CONNECT}".encode(), "list": b"topic a\n", "faulty": b"# c\n\ntopic a b",
          "bytes": b"\xff", "marks": b"pattern x%c/%u%c\n", "tab": b"\ttopic b\n"}
 UNKNOWN_RULES = "error: {}\n  [possible values: own, mosquitto]\n\n" \
     "For more information, try '--help'.\n"
@@ -32,6 +45,10 @@ CASES = [
     ("-", ALLOWED, "", 0),
     ("", ALLOWED, "", 0),
     ("--unbuffered", ALLOWED, "", 0),
+    ("empty", "", "", 0),
+    ("blank", "", "", 0),
+    ("last", '{"line":3,"reason":0}\n', "", 0),
+    ("--max-retained 5 --max-queued 0 limited", AT_LIMITS, "", 1),
     ("--acl-file list", DENIED, "", 1),
     ("--acl-file list script", DENIED, "", 1),
     ("nowhere", "", "mqroute: cannot open script nowhere\n", 2),

@@ -82,6 +82,26 @@ fn flush_after_a_last_piece(rt: HostRuntime) {
     }
 }
 
+// The script is written so, has so many lines, and none is refused.
+fn assert_answered(rt: &(impl Abort + AllocGlobal), script: &str, output: &str, lines: u64) {
+    let mut writer = Page::new(output.as_bytes(), 100);
+    let result = ended(
+        rt.alloc(),
+        &mut Script::new(script.as_bytes(), 100),
+        &mut writer,
+    );
+    assert!(rt; result == Ok(Summary { lines, refused: 0 }) && exit_status(&result) == 0);
+    assert!(rt; writer.seen() == (Some(output.len()), 1, output.len()));
+}
+
+#[test]
+fn blank_lines_are_counted(rt: HostRuntime) {
+    assert_answered(&rt, "", "", 0);
+    assert_answered(&rt, "\n \n\r\n", "", 3);
+    let last = "\n\n{\"do\":\"connect\",\"client\":\"a\"}";
+    assert_answered(&rt, last, "{\"line\":3,\"reason\":0}\n", 3);
+}
+
 #[test]
 fn flushes_of_an_unbuffered_run(rt: HostRuntime) {
     let alloc = rt.alloc();

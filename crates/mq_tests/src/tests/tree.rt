@@ -1,4 +1,4 @@
-//! The level tree by its public calls: edits, counts of nodes and keys, and both look-ups.
+//! The level tree by its public calls: edits, single values, counts of nodes and keys, and both look-ups.
 use mq_topic::{LevelText, TopicFilter, TopicName};
 use mq_tree::{LevelTree, Steps};
 use std::process::Abort;
@@ -70,4 +70,29 @@ fn looks_up_by_filter(rt: HostRuntime) {
     for_filter(&rt, &tree, "a/#", &[2, 1]);
     for_filter(&rt, &tree, "+", &[2, 4]);
     for_filter(&rt, &tree, "$x", &[3]);
+}
+
+#[test]
+fn gets_and_changes_a_value(rt: HostRuntime) {
+    let mut tree = tree_of(&rt, &["+/x", "#", "$SYS/+", "a/+"]);
+    for_name(&rt, &tree, "$SYS/x", &[3]);
+    for_name(&rt, &tree, "a/$x", &[2, 4]);
+    let found = tree.get(&filter(&rt, "a/+")).copied();
+    assert!(rt; found == Some(4) && tree.get(&filter(&rt, "a")).is_none());
+    assert!(rt; tree.get_mut(&filter(&rt, "a")).is_none());
+    if let Some(value) = tree.get_mut(&filter(&rt, "a/+")) {
+        *value = 9;
+    }
+    for_name(&rt, &tree, "a/$x", &[2, 9]);
+}
+
+#[test]
+fn keeps_a_filter_of_200_levels(rt: HostRuntime) {
+    let slashes = "/".repeat(rt.alloc(), 199).expect(&rt, "memory");
+    let mut tree = LevelTree::new(rt.alloc());
+    let older = put(&rt, &mut tree, slashes.as_str(), 1);
+    assert!(rt; older.is_none() && tree.nodes() == 200 && tree.len() == 1);
+    assert!(rt; put(&rt, &mut tree, slashes.as_str(), 2) == Some(1));
+    let taken = tree.take(&filter(&rt, slashes.as_str()));
+    assert!(rt; taken == Some(2) && tree.nodes() == 0);
 }
