@@ -7,8 +7,10 @@ of them are shown.
 
 - Beside 10,000 things of each kind that a command has nothing to do with it takes about what it
   takes beside 100: no walk over sessions, trees or lists, and no index that is made anew.
-- What is kept, and what a command concerns, takes a bounded number of bytes for each.
-- The copies of a message share its payload.
+- What a command concerns takes a bounded number of instructions and bytes for each, among so many
+  that a look at all before it takes more.
+- What is kept takes a bounded number of bytes for each.
+- The copies of a message share its payload and its topic.
 - Commands that end things take no memory for it.
 - Commands that concern many thousands of things aren't refused for want of memory.
 """
@@ -30,10 +32,10 @@ TOP = pathlib.Path(__file__).resolve().parent.parent
 PROGRAM = TOP / "bin/mqroute"
 # Beside few things no command takes as many instructions.
 MOST_INSTRUCTIONS = 100_000
-# How many things a command concerns, and how many where its instructions are counted, which takes
-# a while; how many copies of a long payload there are; how many things are kept. Each is measured
-# with so many, and with twice as many.
-SOME, STEPPED, COPIES, KEPT = 500, 100, 20, 4_000
+# How many things a command concerns where no instructions are counted; how many copies of a long
+# payload there are; how many things are kept. Each is measured with so many, and with twice as
+# many.
+SOME, COPIES, KEPT = 500, 20, 4_000
 # A piece of the script is read at a time, 64 KiB of it; with as much again for lists.
 MOST_AT_START = 300_000
 
@@ -59,56 +61,62 @@ def beside(counter, kinds, n, most, times=scripts.TIMES):
     turns = [(command, turn) for command in scripts.COMMANDS for turn in range(times)]
     rows = scripts.access_list(n if "users of the access list" in kinds else 0)
     run = counter.run(before, [command.line(turn) for command, turn in turns], rows,
-                      scripts.options(kinds, n), [most[command.name] for command, _ in turns])
+                      scripts.options(kinds, n, times),
+                      [most[command.name] for command, _ in turns])
     for (command, _), answers in zip(turns, run.answers):
         answered(command.name, answers, command.copies, command.closing)
     return {command.name: middle(run.costs[at * times:(at + 1) * times])
             for at, command in enumerate(scripts.COMMANDS)}
 
 
-def by_kind(counter, few, most, grown):
+def by_kind(counter, kinds, few, most, grown):
     """Which kind of thing it is beside which these commands grow."""
-    kinds = list(scripts.THINGS)
     alone = at_once(beside, [(counter, [kind], MANY, most, 1) for kind in kinds])
     return [check for kind, costs in zip(kinds, alone) for name in grown
             for check in more_beside(name, kind, few[name], costs[name]) if check.is_over()]
 
 
-def growth(counter):
+def growth(counter, things, kinds):
     """Each command beside few and beside many. There it is counted until it has taken too much, so
     that a walk over all of them doesn't take long here."""
-    kinds = list(scripts.THINGS)
     few = beside(counter, kinds, FEW, dict.fromkeys(scripts.NAMES, MOST_INSTRUCTIONS))
     if not any(cost.instructions for cost in few.values()):
         print("costs: instructions are left out: the processor doesn't stop at each of them here")
     most = {name: cost.instructions + MORE_INSTRUCTIONS + 1 for name, cost in few.items()}
     many = beside(counter, kinds, MANY, most)
-    checks = {name: [at_most(f"{name} beside {FEW} things of each kind", "instructions", cost,
+    checks = {name: [at_most(f"{name} beside {FEW} {things}", "instructions", cost,
                              MOST_INSTRUCTIONS - 1),
-                     *more_beside(name, "things of each kind", cost, many[name])]
+                     *more_beside(name, things, cost, many[name])]
               for name, cost in few.items()}
     grown = [name for name, made in checks.items() if any(check.is_over() for check in made)]
     return [*itertools.chain(*checks.values()),
-            *(by_kind(counter, few, most, grown) if grown else []),
+            *(by_kind(counter, kinds, few, most, grown) if grown and kinds[1:] else []),
             *(no_more(name, few[refused], few[name]) for name, refused in scripts.WITHOUT_MEMORY)]
 
 
-def cost_of(counter, name, script, copies, long=0, most=()):
+def cost_of(counter, name, script, copies, long=0, most=(), rules="own"):
     """What a command costs behind what it concerns."""
     before, line = script
-    run = counter.run(before, [line], options=["--max-queued", str(len(before))], most=most,
-                      long=long)
+    options = ["--max-queued", str(len(before)), "--rules", rules]
+    run = counter.run(before, [line], options=options, most=most, long=long)
     answered(name, run.answers[0], copies, 0)
     return run.costs[0]._replace(held=run.costs[0].held - run.before.held)
 
 
 def concern(counter, one):
-    """A command that concerns some things, and one that concerns twice as many."""
-    most = one.bounds.get("instructions", 0)
-    n = STEPPED if most else SOME
-    few, many = (cost_of(counter, one.name, one.script(m), one.copies(m), most=[2 * most * m])
-                 for m in (n, 2 * n))
-    return [for_each(one.name, kind, few, many, n, most) for kind, most in one.bounds.items()]
+    """The bytes of a command that concerns some things, and of one that concerns twice as many."""
+    few, many = (cost_of(counter, one.name, one.script(m), one.copies(m), rules=one.rules)
+                 for m in (SOME, 2 * SOME))
+    return [for_each(one.name, kind, few, many, SOME, most) for kind, most in one.bounds.items()]
+
+
+def stepped(counter, one):
+    """The same of its instructions. To count them takes a while, so they are counted until they are
+    too many."""
+    few, many = (cost_of(counter, one.name, one.script(m), one.copies(m), rules=one.rules,
+                         most=[MOST_INSTRUCTIONS + 2 * one.instructions * m])
+                 for m in (one.stepped, 2 * one.stepped))
+    return [for_each(one.name, "instructions", few, many, one.stepped, one.instructions)]
 
 
 def long_text(counter, text, name, script, copies, most):
@@ -140,12 +148,14 @@ def large(counter, one):
 
 def parts():
     """What is checked: a function, and what it is given behind the counter."""
-    yield growth,
+    yield growth, "things of each kind", [kind for kind in scripts.THINGS if kind != "siblings"]
+    yield growth, "siblings", ["siblings"]
     yield start,
-    yield from ((concern, one) for one in concerned.CONCERNS)
+    yield from ((stepped, one) for one in concerned.CONCERNS)
+    yield from ((concern, one) for one in concerned.CONCERNS if one.bounds)
     yield from ((long_text, *one) for one in concerned.LONG_TEXTS)
     yield from ((kept, *one) for one in concerned.KEPT.items())
-    yield from ((large, one) for one in concerned.CONCERNS)
+    yield from ((large, one) for one in {one.script: one for one in concerned.CONCERNS}.values())
 
 
 def checked(counter, part, *given):

@@ -34,18 +34,28 @@ def marked_colleagues(n):
     return colleagues(n, users=12, lines=100, more="pattern read area/%c\n")
 
 
-def sleepers(n, **fields):
-    """The same clients, that are away."""
+def shared(n):
+    """The members of one group, clients of one user of some lines."""
+    rows = "".join(f"topic read area/{i}\n" for i in range(100))
+    before = [line("acl", text=f"user anna\n{rows}topic readwrite site/+\n")]
+    for i in range(n):
+        before += [line("connect", f"client-{i}", user="anna"),
+                   subscribe("$share/crew/site/1", f"client-{i}")]
+    return before, publish("site/1")
+
+
+def sleepers(n, topic="1", **fields):
+    """Clients that subscribe to one filter, and are away."""
     before = [line("connect", "client-0")]
     for i in range(n):
         before += away(f"away-{i}", FOREVER, subscribe("site/+", f"away-{i}", qos=1))
-    return before, publish("site/1", qos=1, **fields)
+    return before, publish(f"site/{topic}", qos=1, **fields)
 
 
-def served_groups(n, **fields):
+def served_groups(n, topic="1", **fields):
     before = [line("connect", "client-0"),
-              *(subscribe(f"$share/crew-{i}/site/1", qos=1) for i in range(n))]
-    return before, publish("site/1", qos=1, **fields)
+              *(subscribe(f"$share/crew-{i}/site/+", qos=1) for i in range(n))]
+    return before, publish(f"site/{topic}", qos=1, **fields)
 
 
 def members(n):
@@ -71,9 +81,10 @@ def retained(n, topic="", **fields):
     return before, subscribe("#")
 
 
-def waiting(n, **fields):
-    before = [line("connect", "client-0"), *away("back", FOREVER, subscribe("site", "back", qos=1)),
-              *(publish("site", qos=1, **fields) for i in range(n))]
+def waiting(n, topic="1", **fields):
+    before = [line("connect", "client-0"),
+              *away("back", FOREVER, subscribe("site/+", "back", qos=1)),
+              *(publish(f"site/{topic}", qos=1, **fields) for i in range(n))]
     return before, line("connect", "back", clean=False, session_expiry=FOREVER)
 
 
@@ -120,33 +131,48 @@ def none(n):
 
 class Concern(NamedTuple):
     """A command behind the things that it concerns: how many copies answer it, and what it may take
-    for each thing, by kind of count: some twice of what it takes."""
+    for each thing, some twice of what it takes: instructions, among `stepped` things and among
+    twice as many; and other kinds of counts. `rules` are those of the access list.
+
+    Where there may be a look at each thing before, there are so many that three instructions for
+    each look are too much, or where copies are printed ten."""
     name: str
     script: Callable[..., tuple[list[bytes], bytes]]
     copies: Callable[[int], int]
+    stepped: int
+    instructions: int
     bounds: dict[str, float]
+    rules: str = "own"
+
+
+def by_both(name, *more):
+    """The same by either set of rules."""
+    return [Concern(name, *more), Concern(f"{name}, by mosquitto's rules", *more, "mosquitto")]
 
 
 # At one time the copies are held, and the answer's text with as much room again: a list that is
 # full gets twice the room.
 CONCERNS = [
-    Concern("a publish to clients", receivers, each, {"room": 400}),
-    Concern("a publish to clients of a user of 1,001 lines", colleagues, each,
-            {"instructions": 6_000}),
-    Concern("a publish to clients of 12 users of 101 lines in turn", mixed_colleagues, each,
-            {"instructions": 6_000}),
-    Concern("the same, and a pattern of another topic has %c", marked_colleagues, each,
-            {"instructions": 6_000}),
-    Concern("a publish that waits for clients", sleepers, none, {"room": 600, "held": 250}),
-    Concern("a publish to groups", served_groups, each, {"room": 450}),
-    Concern("a publish to members of a group", members, one, {"room": 10}),
-    Concern("a publish that filters match", matching_filters, one, {"room": 100}),
-    Concern("a subscribe that is sent retained messages", retained, each, {"room": 600}),
-    Concern("a connect that is sent waiting copies", waiting, each, {"room": 400}),
-    Concern("an access list of rows", rows, none, {"room": 450, "held": 250}),
-    Concern("a disconnect that ends subscriptions", own_subscriptions, none, {"blocks": 0}),
-    Concern("an advance that ends sessions and messages", ends, none, {"blocks": 0}),
-    Concern("a stat of subscriptions and messages", counted, none, {"blocks": 0}),
+    Concern("a publish to clients", receivers, each, 200, 4_500, {"room": 400}),
+    *by_both("a publish to clients of a user of 1,001 lines", colleagues, each, 50, 6_000, {}),
+    *by_both("a publish to clients of 12 users of 101 lines in turn", mixed_colleagues, each, 50,
+             6_000, {}),
+    Concern("the same, and a pattern of another topic has %c", marked_colleagues, each, 50,
+            6_000, {}),
+    Concern("a publish that waits for clients", sleepers, none, 100, 2_500,
+            {"room": 600, "held": 250}),
+    Concern("a publish to groups", served_groups, each, 50, 9_000, {"room": 450}),
+    Concern("a publish to members of a group", members, one, 1_000, 40, {"room": 10}),
+    *by_both("a publish to members of a group, of a user of 101 lines", shared, one, 1_000, 40, {}),
+    Concern("a publish that filters match", matching_filters, one, 128, 2_000, {"room": 100}),
+    Concern("a subscribe that is sent retained messages", retained, each, 200, 4_500,
+            {"room": 600}),
+    Concern("a connect that is sent waiting copies", waiting, each, 200, 4_000, {"room": 400}),
+    Concern("an access list of rows", rows, none, 100, 2_500, {"room": 450, "held": 250}),
+    Concern("a disconnect that ends subscriptions", own_subscriptions, none, 100, 4_500,
+            {"blocks": 0}),
+    Concern("an advance that ends sessions and messages", ends, none, 50, 16_000, {"blocks": 0}),
+    Concern("a stat of subscriptions and messages", counted, none, 500, 450, {"blocks": 0}),
 ]
 
 # How many blocks of the length of a long text each copy may take. The text that is printed is one.
@@ -157,11 +183,15 @@ LONG_TEXTS = [("payload", "a publish to clients", receivers, each, 1.5),
               ("payload", "a subscribe that is sent retained messages", retained, each, 1.5),
               ("payload", "a connect that is sent waiting copies", waiting, each, 1.5),
               ("topic", "a publish to clients", receivers, each, 1.5),
+              ("topic", "a publish to groups", served_groups, each, 1.5),
+              ("topic", "a publish that waits for clients", sleepers, none, 0.5),
+              ("topic", "a connect that is sent waiting copies", waiting, each, 1.5),
               ("topic", "a subscribe that is sent retained messages", retained, each, 1.5)]
 
 # So many things as no other test has at once.
 LARGE = {receivers: 20_000, colleagues: 20_000, mixed_colleagues: 20_000,
          marked_colleagues: 20_000, sleepers: 20_000, served_groups: 20_000, members: 20_000,
+         shared: 20_000,
          matching_filters: 16_384, retained: 100_000, waiting: 100_000, rows: 40_000,
          own_subscriptions: 20_000, ends: 20_000, counted: 20_000}
 

@@ -68,6 +68,16 @@ def waiting_copies(n):
             *(publish("sleep", payload=f"v={i}", qos=1) for i in range(n))]
 
 
+def siblings(n):
+    """Levels beside those on the way of a command, at each of eight places so many of all."""
+    places = [lambda i: subscribe(f"other-{i}/state"), lambda i: subscribe(f"new/other-{i}/state"),
+              lambda i: subscribe(f"leave/other-{i}"),
+              lambda i: subscribe(f"site/other-{i}/temperature"),
+              lambda i: retain(f"other-{i}/state"), lambda i: retain(f"area/other-{i}/0"),
+              lambda i: retain(f"old/other-{i}"), lambda i: retain(f"gone/other-{i}")]
+    return [place(i) for place in places for i in range(n // 4)]
+
+
 def users_of_a_list(n):
     """These stand in the access list."""
     return []
@@ -77,6 +87,7 @@ THINGS = {"sessions connected": sessions_connected, "sessions away": sessions_aw
           "clients that came back": clients_that_came_back, "subscriptions": subscriptions,
           "groups": groups, "members of a group that are away": members_away,
           "retained messages": retained_messages, "waiting copies": waiting_copies,
+          "siblings": siblings,
           "users of the access list": users_of_a_list}
 
 
@@ -115,10 +126,11 @@ def prepared_once(i):
     yield subscribe(f"$share/crew/leave/{i}")
 
 
-def options(kinds, n):
-    """Limits: of messages so many that some more can be retained, and no others then."""
-    retained = 13 * TIMES + (n if "retained messages" in kinds else 0)
-    return ["--max-retained", str(retained + TIMES), "--max-queued", str(n + 10)]
+def options(kinds, n, times=TIMES):
+    """Limits: of messages so many that some more can be retained, one each time, and no others
+    then."""
+    retained = 13 * TIMES + sum(n for kind in ("retained messages", "siblings") if kind in kinds)
+    return ["--max-retained", str(retained + times), "--max-queued", str(n + 10)]
 
 
 class Command(NamedTuple):
