@@ -10,7 +10,7 @@
 # compiles the tools' modules for PYTHON, where there is one (PYTHON= compiles none); uninstall takes all of it out again.
 # The parts of check, side by side: what takes longest comes first. Each is a file of tests/, but for check-tests, the tests of
 # that folder, and check-tools, those of the tools.
-CHECKS = tools costs.py acl.py readme.py package.sh linted.sh tests program.py rows.sh acl_rows.py memory.sh unbuffered.py \
+CHECKS = tools costs.py edits.sh acl.py readme.py package.sh linted.sh tests program.py rows.sh acl_rows.py memory.sh unbuffered.py \
     build.py links.py layers.py sources.py
 
 .PHONY: all run check test package bench install uninstall mended programs $(CHECKS:%=check-%)

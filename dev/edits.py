@@ -1,35 +1,105 @@
 #!/usr/bin/env python3
-"""Tries the must-fail edits that the gate leaves out: edits.py [CRATE..]
+"""Tries the must-fail edits that the gate leaves out. They stand in dev/edits/CRATE.
 
-They stand in dev/edits/CRATE (docs/explanation/gate.md says which they are). This puts them beside
-the crate's sources in a copy of the repository, and has `rt ci` try them there, which takes what is
-proved from where the toolchain keeps it. Ends with 0 where each is refused, and with 1 where one
-isn't, or can't be applied.
+usage: edits.py [CRATE..]   those of these crates, or all: the prover has to refuse each
+       edits.py --in-turn   those of one crate, in turn by the number of commits
+       edits.py --compiled  has the compiler read all of them, over the sources as they are
+
+Each says in its first line what stands for it in the gate (docs/explanation/gate.md): a clause of a
+crate above, whose proof needs what the edit takes away, or an edit of the gate, or nothing. In turn
+come the crates of those with nothing first. Made for rattle-kit-13f, whose `rt ci CRATE` takes what
+is proved from where the toolchain keeps it; where `rt ci` takes no names, `rt must-fail CRATE`
+proves the crates below in a copy. Ends with 0 where each is refused, or compiled, and else with 1.
 """
+import os
 import pathlib
+import re
 import shutil
 import subprocess
 import sys
 import tempfile
+import time
+from collections.abc import Iterator
+from typing import NamedTuple
+
+import toolchain
 
 TOP = pathlib.Path(__file__).resolve().parent.parent
 EDITS = TOP / "dev" / "edits"
+PROGRAM = "mqroute_acl"  # The one with edits. All libraries are compiled with it.
+# Where the compiler writes which stages it has ended, and how it names the one that refuses code.
+STAGES, FRONT_END = "stages", "stage front-end "
 
 
-def copied(folder: pathlib.Path, crates: list[str]) -> None:
-    """Copies what is proved, with these crates' edits and no others."""
+class Edit(NamedTuple):
+    """An edit: what stands for it, and its texts by file."""
+    path: pathlib.Path
+    stands: str
+    pairs: list[tuple[str, str, str]]
+
+    @property
+    def crate(self) -> str:
+        return self.path.parent.name
+
+    def __str__(self) -> str:
+        return f"{self.crate}/{self.path.name}"
+
+
+def read(path: pathlib.Path) -> Edit:
+    """The edit in a file."""
+    stands, file, old = "", "", ""
+    pairs = []
+    for line in path.read_text(encoding="utf-8").splitlines():
+        field, _, text = line.partition(":")
+        text = text.removeprefix(" ")
+        if field == "stands":
+            stands = text
+        elif field == "file":
+            file = text.strip()
+        elif field == "old":
+            old = text
+        elif field == "new":
+            pairs.append((file, old, text))
+    return Edit(path, stands, pairs)
+
+
+def edits_of(crate: str) -> list[Edit]:
+    """The crate's edits, those first for which nothing stands."""
+    found = [read(path) for path in sorted((EDITS / crate).glob("*.edit"))]
+    return sorted(found, key=lambda edit: edit.stands != "none")
+
+
+def crates_with_edits() -> list[str]:
+    """Those that have an edit for which nothing stands come first."""
+    names = sorted(folder.name for folder in EDITS.iterdir() if folder.is_dir())
+    return sorted(names, key=lambda name: edits_of(name)[0].stands != "none")
+
+
+def copied(folder: pathlib.Path) -> None:
+    """Copies what is proved, without edits."""
     left_out = shutil.ignore_patterns("out", "must-fail")
     shutil.copytree(TOP / "crates", folder / "crates", ignore=left_out)
     for name in ("crates.txt", "HANDLES"):
         shutil.copyfile(TOP / name, folder / name)
-    for crate in crates:
-        shutil.copytree(EDITS / crate, folder / "crates" / crate / "must-fail")
+
+
+def put_edits(folder: pathlib.Path, crate: str) -> None:
+    """Puts the crate's edits beside its sources, as the toolchain reads them."""
+    to = folder / "crates" / crate / "must-fail"
+    to.mkdir()
+    for edit in edits_of(crate):
+        _, _, rest = edit.path.read_text(encoding="utf-8").partition("\n")
+        (to / edit.path.name).write_text(rest, encoding="utf-8")
 
 
 def tried(folder: pathlib.Path, crates: list[str]) -> int:
     """Has the edits tried, and shows what is said of each."""
-    status, line = 0, ""
     command = ["rt", "ci", *crates]
+    if not toolchain.ci_takes_names():
+        print(f"edits.py: made for {toolchain.MADE_FOR}; `rt ci` of {toolchain.version()} takes no "
+              "names of crates: `rt must-fail` proves the crates below first", file=sys.stderr)
+        command = ["rt", "must-fail", *crates]
+    status, line = 0, ""
     with subprocess.Popen(command, cwd=folder, stdout=subprocess.PIPE, stderr=subprocess.STDOUT,
                           text=True, errors="replace") as run:
         for line in run.stdout or ():
@@ -41,18 +111,213 @@ def tried(folder: pathlib.Path, crates: list[str]) -> int:
     return status or (1 if run.returncode else 0)
 
 
+def tried_of(crates: list[str]) -> int:
+    """Tries the edits of these crates in a copy."""
+    with tempfile.TemporaryDirectory(prefix="mqroute-edits-") as name:
+        folder = pathlib.Path(name)
+        copied(folder)
+        for crate in crates:
+            put_edits(folder, crate)
+        return tried(folder, crates)
+
+
+def commits() -> int | None:
+    """How many commits there are; None in a shallow clone, or where git can't say."""
+    def git(*words: str) -> str:
+        return subprocess.run(["git", *words], cwd=TOP, capture_output=True, text=True,
+                              check=True).stdout.strip()
+    try:
+        if git("rev-parse", "--is-shallow-repository") == "false":
+            return int(git("rev-list", "--count", "HEAD"))
+    except (OSError, ValueError, subprocess.CalledProcessError):
+        pass
+    return None
+
+
+def in_turn() -> int:
+    """Tries the edits of the crate whose turn it is."""
+    names, count = crates_with_edits(), commits()
+    if count is None:
+        print("edits.py: git can't count the commits here: the first crate is tried")
+    crate = names[(count or 0) % len(names)]
+    print(f"edits.py: {crate}, {len(edits_of(crate))} edits")
+    return tried_of([crate])
+
+
+class NotApplied(Exception):
+    """An edit whose text doesn't stand in its file exactly once."""
+
+
+def applied(edit: Edit, texts: dict[str, str]) -> dict[str, str]:
+    """The texts of the files that the edit changes, where some may have been changed before."""
+    made: dict[str, str] = {}
+    for file, old, new in edit.pairs:
+        path = f"crates/{edit.crate}/{file}"
+        text = made.get(path) or texts.get(path) or (TOP / path).read_text(encoding="utf-8")
+        if text.count(old) != 1:
+            raise NotApplied(f"{edit}: an old text stands {text.count(old)} times in {file}")
+        made[path] = text.replace(old, new)
+    return made
+
+
+class Batch:
+    """Edits whose texts don't meet, and that are compiled together."""
+
+    def __init__(self) -> None:
+        self.edits: list[Edit] = []
+        self.texts: dict[str, str] = {}
+
+    def takes(self, edit: Edit) -> bool:
+        try:
+            self.texts.update(applied(edit, self.texts))
+        except NotApplied:
+            return False
+        self.edits.append(edit)
+        return True
+
+
+def batches(edits: list[Edit]) -> list[Batch]:
+    """As few as may be. An edit that can't be applied to the sources is an error."""
+    made: list[Batch] = []
+    for edit in edits:
+        applied(edit, {})
+        if not any(batch.takes(edit) for batch in made):
+            made.append(Batch())
+            made[-1].takes(edit)
+    return made
+
+
+def crates_below(wanted: set[str]) -> dict[str, list[str]]:
+    """These crates and what they stand on, with what each uses."""
+    lines = (TOP / "crates.txt").read_text(encoding="utf-8").splitlines()
+    rows = {name.split()[0]: used.split() for name, _, used in
+            (line.partition("#")[0].partition(":") for line in lines) if name.strip()}
+    found: dict[str, list[str]] = {}
+    left = list(wanted)
+    while left:
+        name = left.pop()
+        if name in rows and name not in found:
+            found[name] = rows[name]
+            left += rows[name]
+    return found
+
+
+def compiler_words(folder: pathlib.Path, crates: dict[str, list[str]]) -> list[str]:
+    """The call that reads all of these crates as source. No function has the name, so that it
+    proves nothing."""
+    kit = toolchain.folder()
+    root = folder / "root" / "lib.rt"
+    words = [f"{kit}/bin/rattle", "check", "--only", "no_such_function", "--jobs", "1",
+             "--stage-times", f"{folder}/{STAGES}"]
+    if PROGRAM in crates:
+        words += ["--crate-name", PROGRAM, f"{folder}/crates/{PROGRAM}/src/main.rt"]
+    else:
+        root.parent.mkdir()
+        root.write_text("#![tactic(auto)]\n", encoding="utf-8")
+        words += ["--crate-name", "root", str(root)]
+    for name, used in crates.items():
+        if name != PROGRAM:
+            source = f"{folder}/crates/{name}/src/lib.rt"
+            words += ["--lib", f"{name}:{','.join(['std', *used])}={source}"]
+    for name in sorted({"std"}.union(*crates.values()) - crates.keys()):
+        words += ["--extern", f"{name}={kit}/rlibs/{name}.rlib"]
+    return [*words, "-L", f"dependency={kit}/rlibs",
+            "--antt-project", f"{kit}/rattle/logic/antt-project.json",
+            "--logic-built", f"{kit}/logic_built"]
+
+
+def seconds_of(process: int) -> float:
+    """The processor's seconds that a process has taken."""
+    fields = pathlib.Path(f"/proc/{process}/stat").read_text(encoding="utf-8").rpartition(")")[2]
+    return sum(map(int, fields.split()[11:13])) / os.sysconf("SC_CLK_TCK")
+
+
+def is_read(process: int, stages: pathlib.Path, since: list[float]) -> bool:
+    """Whether the compiler has ended the stage that refuses code, and gone on for two seconds."""
+    if stages.is_file() and FRONT_END in stages.read_text(encoding="utf-8"):
+        since.append(seconds_of(process))
+    return bool(since) and since[-1] - since[0] > 2
+
+
+def front_end(folder: pathlib.Path, words: list[str]) -> list[str] | None:
+    """What the compiler says if it refuses the sources; None if it has read and lowered them. What
+    it would do next, for proofs, takes three times as long, so it is ended there."""
+    with open(folder / "said", "w+", encoding="utf-8", errors="replace") as out:
+        run = subprocess.Popen(words, cwd=folder, stdout=out, stderr=subprocess.STDOUT)
+        since: list[float] = []
+        try:
+            while run.poll() is None:
+                if is_read(run.pid, folder / STAGES, since):
+                    return None
+                time.sleep(0.2)
+        finally:
+            run.kill()
+            run.wait()
+        out.seek(0)
+        said = out.read().replace(f"{folder}/", "")
+    if run.returncode == 2 and "no function `no_such_function`" in said:
+        return None
+    return said.splitlines() or [f"the compiler ended with {run.returncode}"]
+
+
+def faults_of(edits: list[Edit], texts: dict[str, str]) -> list[str]:
+    """What the compiler says of the sources with these texts."""
+    crates = crates_below({edit.crate for edit in edits})
+    with tempfile.TemporaryDirectory(prefix="mqroute-edits-") as name:
+        folder = pathlib.Path(name)
+        for crate in crates:
+            shutil.copytree(TOP / "crates" / crate, folder / "crates" / crate,
+                            ignore=shutil.ignore_patterns("out", "must-fail"))
+        for path, text in texts.items():
+            (folder / path).write_text(text, encoding="utf-8")
+        said = front_end(folder, compiler_words(folder, crates))
+    return [line for line in said or () if re.search(r"\berror\b", line)][:6] or (said or [])[-6:]
+
+
+def not_compiled() -> Iterator[str]:
+    """Each edit that doesn't reach the prover, with what is said of it."""
+    try:
+        made = batches([edit for crate in crates_with_edits() for edit in edits_of(crate)])
+    except (NotApplied, OSError) as fault:
+        yield str(fault)
+        return
+    for batch in made:
+        if not (faults := faults_of(batch.edits, batch.texts)):
+            continue
+        # Each by itself: only those of files that are named, where some are.
+        named = {path for path in batch.texts for line in faults if path in line}
+        alone = [edit for edit in batch.edits
+                 if not named or named & {f"crates/{edit.crate}/{file}" for file, *_ in edit.pairs}]
+        bad = [f"{edit}: {line}" for edit in alone
+               for line in faults_of([edit], applied(edit, {}))[:1]]
+        yield from bad or (faults if not named else [])
+
+
+def compiled() -> int:
+    """Has the compiler read all edits."""
+    if toolchain.folder() is None:
+        print("edits: left out, since there is no toolchain")
+        return 0
+    faults = list(not_compiled())
+    for fault in faults:
+        print(f"edits: {fault}")
+    count = sum(len(edits_of(crate)) for crate in crates_with_edits())
+    print(f"edits: {count} are compiled, {len(faults)} faults")
+    return 1 if faults else 0
+
+
 def main() -> int:
-    """Tries the edits of the crates that are named, or of all."""
-    known = sorted(folder.name for folder in EDITS.iterdir())
-    crates = sys.argv[1:] or known
-    unknown = [crate for crate in crates if crate not in known]
+    """Tries the edits of the crates that are named, or does what the flag says."""
+    if sys.argv[1:] == ["--in-turn"]:
+        return in_turn()
+    if sys.argv[1:] == ["--compiled"]:
+        return compiled()
+    known = crates_with_edits()
+    unknown = [name for name in sys.argv[1:] if name not in known]
     if unknown:
         print(f"edits.py: no edits of {', '.join(unknown)} in {EDITS}", file=sys.stderr)
         return 2
-    with tempfile.TemporaryDirectory(prefix="mqroute-edits-") as name:
-        folder = pathlib.Path(name)
-        copied(folder, crates)
-        return tried(folder, crates)
+    return tried_of(sys.argv[1:] or known)
 
 
 if __name__ == "__main__":
