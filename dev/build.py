@@ -4,8 +4,9 @@
 The toolchain's `rt ci` proves the crates side by side, over a copy that has what the programs stand
 on and nothing more: no must-fail edits and no crate of tests. A line a crate shows how far it is,
 and how long is left where an earlier run on this machine shows. A crate that fails ends the run,
-with the end of its log. The toolchain keeps what is proved, so that a run after one that was
-stopped goes on where that was.
+with the end of its log. Made for rattle-kit-13f, which keeps what is proved: a run after one that
+was stopped goes on where that was, and the gate proves none of it again. Older kits keep nothing;
+then this says so, and does the same from nothing.
 """
 import argparse
 import contextlib
@@ -19,6 +20,8 @@ import subprocess
 import sys
 import tempfile
 import time
+
+import toolchain
 
 TOP = pathlib.Path(__file__).resolve().parent.parent
 BIN = TOP / "bin"
@@ -158,6 +161,9 @@ def failed(why):
 
 def build():
     crates, began = crates_below(), time.monotonic()
+    if toolchain.version() and not toolchain.ci_keeps():
+        print(f"build: made for {toolchain.MADE_FOR}; {toolchain.version()} keeps nothing of this "
+              "for the gate or a later run")
     with tempfile.TemporaryDirectory(prefix="mqroute-build-") as name:
         folder = pathlib.Path(name)
         lay_out(folder, crates)
@@ -167,7 +173,8 @@ def build():
         except NotProved as name:
             return failed(f"{name} is not proved")
         except KeyboardInterrupt:
-            print("\nbuild: stopped; run again, it goes on where it was", file=sys.stderr)
+            again = "goes on where it was" if toolchain.ci_keeps() else "begins from nothing"
+            print(f"\nbuild: stopped; run again, it {again}", file=sys.stderr)
             return 130
         except OSError as error:
             print(f"build: {error.filename or 'rt'}: {error.strerror}", file=sys.stderr)

@@ -17,6 +17,10 @@ tests_alone: words
 """
 # What the toolchain does: it says how each crate ends, and leaves the programs.
 RT = """#!/bin/sh
+case "$*" in
+help) echo "What a run passed $KEPT"; exit;;
+version) echo rattle-kit-0 logic 0; exit;;
+esac
 [ "$*" = ci ] || exit 9
 ls crates > "$SEEN"
 for name in words mqroute mqroute_acl; do
@@ -49,9 +53,9 @@ def lay_out(top):
     (top / "rt").chmod(0o755)
 
 
-def started(top, ends, step=":"):
+def started(top, ends, step=":", kept="is kept beside the kit"):
     env = os.environ | {"PATH": f"{top}:{os.environ['PATH']}", "XDG_CACHE_HOME": str(top / "cache"),
-                        "SEEN": str(top / "seen"), "ENDS": ends, "STEP": step}
+                        "SEEN": str(top / "seen"), "ENDS": ends, "STEP": step, "KEPT": kept}
     # a job in the background ignores Ctrl-C, and so do its tests
     return subprocess.Popen([sys.executable, "dev/build.py"], cwd=top, env=env, text=True,
                             stdout=subprocess.PIPE, stderr=subprocess.PIPE,
@@ -79,6 +83,11 @@ def check(top):
 
     status, out, _ = ended(top, "is kept: an earlier run proved the same")
     assert status == 0 and out.splitlines()[0].endswith("words            was proved before"), out
+
+    status, out, _ = ended(top, "proved", ":", "is thrown away")
+    assert (status, out.splitlines()[0]) == (
+        0, "build: made for rattle-kit-13f; rattle-kit-0 keeps nothing of this for the gate or a "
+        "later run"), out
 
     (top / "bin/mqroute").unlink()
     status, out, err = ended(top, "NOT PROVED")
