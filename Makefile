@@ -49,7 +49,6 @@ $(filter-out check-tests check-tools,$(CHECKS:%=check-%)): check-%:
 test: mended
 	tests/layers.py
 	tests/sources.py
-	tests/linted.sh
 	rt ci
 	dev/build.py --of-gate
 	tests/refused.sh
