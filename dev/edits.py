@@ -260,9 +260,9 @@ def front_end(folder: pathlib.Path, words: list[str]) -> list[str] | None:
     return said.splitlines() or [f"the compiler ended with {run.returncode}"]
 
 
-def faults_of(edits: list[Edit], texts: dict[str, str]) -> list[str]:
-    """What the compiler says of the sources with these texts."""
-    crates = crates_below({edit.crate for edit in edits})
+def faults_of(edits: list[Edit], texts: dict[str, str], above: set[str]) -> list[str]:
+    """What the compiler says of the sources with these texts, and of these crates above."""
+    crates = crates_below({edit.crate for edit in edits} | above)
     with tempfile.TemporaryDirectory(prefix="mqroute-edits-") as name:
         folder = pathlib.Path(name)
         for crate in crates:
@@ -274,6 +274,21 @@ def faults_of(edits: list[Edit], texts: dict[str, str]) -> list[str]:
     return [line for line in said or () if re.search(r"\berror\b", line)][:6] or (said or [])[-6:]
 
 
+def by_themselves(batch: Batch, named: set[str]) -> Iterator[str]:
+    """Which edits the compiler refuses by themselves, where it finds faults in these crates with
+    all of them: those of the crates themselves, and if none of these is at fault those of crates
+    below. Where each compiles, two of them only clash."""
+    for crates in (named, crates_below(named).keys() - named):
+        found = False
+        for edit in batch.edits:
+            if edit.crate in crates:
+                for fault in faults_of([edit], applied(edit, {}), named)[:1]:
+                    found = True
+                    yield f"{edit}: {fault}"
+        if found:
+            return
+
+
 def not_compiled() -> Iterator[str]:
     """Each edit that doesn't reach the prover, with what is said of it."""
     try:
@@ -282,15 +297,9 @@ def not_compiled() -> Iterator[str]:
         yield str(fault)
         return
     for batch in made:
-        if not (faults := faults_of(batch.edits, batch.texts)):
-            continue
-        # Each by itself: only those of files that are named, where some are.
-        named = {path for path in batch.texts for line in faults if path in line}
-        alone = [edit for edit in batch.edits
-                 if not named or named & {f"crates/{edit.crate}/{file}" for file, *_ in edit.pairs}]
-        bad = [f"{edit}: {line}" for edit in alone
-               for line in faults_of([edit], applied(edit, {}))[:1]]
-        yield from bad or (faults if not named else [])
+        faults = faults_of(batch.edits, batch.texts, set())
+        named = set(re.findall(r"\bcrates/(\w+)/", "\n".join(faults)))
+        yield from by_themselves(batch, named) if named else faults
 
 
 def compiled() -> int:
