@@ -94,9 +94,21 @@ fn parse_acl(alloc: Global, rules: Rules, bytes: &[u8]) -> Result<Acl, AclFileFa
     }
 }
 
-/// Reads an access list by these rules from the bytes that a reader gives, in whatever pieces.
+/// Reads an access list by our own rules from the bytes that a reader gives, in whatever pieces.
 /// Memory is that of the file and of its access list.
-pub fn read_acl<R: Source>(alloc: Global, rules: Rules, reader: &mut R) -> Result<Acl, AclFileFault>
+pub fn read_acl<R: Source>(alloc: Global, reader: &mut R) -> Result<Acl, AclFileFault>
+    ensures { AclFileEnds acl_file_limit Rules.Own result
+        (watch R.to_come R.failures reader.old reader.new) }
+{
+    read_acl_by(alloc, Rules::Own, reader)
+}
+
+/// The same by these rules.
+pub fn read_acl_by<R: Source>(
+    alloc: Global,
+    rules: Rules,
+    reader: &mut R,
+) -> Result<Acl, AclFileFault>
     ensures { AclFileEnds acl_file_limit rules result
         (watch R.to_come R.failures reader.old reader.new) }
 {

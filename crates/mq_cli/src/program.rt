@@ -17,7 +17,7 @@ ghost use Rattle.mq_cli.specs.Program.{PrintsUsage};
 ghost use Rattle.mq_cli.specs.Program.{BeginsWith, BeginsIn, IsScript, AnswersScript, AnswersAll};
 ghost use Rattle.mq_cli.specs.Program.{WritesFront};
 
-use crate::acl_file::read_acl;
+use crate::acl_file::read_acl_by;
 use crate::command_line::{Options, arguments};
 use crate::failure::{Failure, UNREADABLE};
 use mq_acl::{Acl, Rules};
@@ -56,7 +56,7 @@ fn acl_in<'a, R: Files>(
     ensures { IfOk result (λ acl. (text : List ℕ) × IsAnswerTo rules text (Ok acl)) }
 {
     let mut source = open(rt, file, Failure::AclRead(file))?;
-    match read_acl(alloc, rules, &mut source) {
+    match read_acl_by(alloc, rules, &mut source) {
         Ok(acl) => Ok(acl),
         Err(fault) => Err(Failure::of_acl(file, fault)),
     }

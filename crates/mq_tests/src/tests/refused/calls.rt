@@ -2,7 +2,7 @@
 use crate::tests::devices::Script;
 use crate::tests::refused::growth::{refuse, was_refused};
 use crate::tests::refused::trial::Trial;
-use mq_acl::{Acl, Rules};
+use mq_acl::Acl;
 use mq_cli::{arguments, read_acl};
 use mq_jsonl::read_line;
 use mq_topic::{SubFilter, TopicFilter, TopicName};
@@ -58,7 +58,7 @@ impl<'a> Call<'a> {
             Call::ReadList(text) => answered(rt, Acl::read(alloc, text)),
             Call::ReadListFile(bytes) => answered(
                 rt,
-                read_acl(alloc, Rules::Own, &mut Script::new(bytes, 100)),
+                read_acl(alloc, &mut Script::new(bytes, 100)),
             ),
             Call::ReadLine(line) => answered(rt, read_line(alloc, line)),
             Call::ReadWords(words) => answered(rt, arguments(alloc, words)),

@@ -1,7 +1,7 @@
 use Rattle.std.proofs.lemmas.Result.{err_from_is_err_and}
 use Rattle.mq_cli.specs.AclFile.{acl_file_limit}
 use Rattle.mq_cli.proofs.AclFileLemmas.{AclFileEnding-whole}
-use Rattle.mq_cli.proofs.acl_file.read_acl.Goals as goal
+use Rattle.mq_cli.proofs.acl_file.read_acl_by.Goals as goal
 
 pub returns : goal.returns
 unfolding acl_file_limit
