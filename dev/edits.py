@@ -3,7 +3,8 @@
 
 usage: edits.py [CRATE..]   those of these crates, or all: the prover has to refuse each
        edits.py --in-turn   those of one crate, in turn by the number of commits
-       edits.py --compiled  has the compiler read all of them, over the sources as they are
+       edits.py --compiled  has the compiler read all of them, and those of the gate, over the
+                            sources as they are
 
 Each says in its first line what stands for it in the gate (docs/explanation/gate.md): a clause of a
 crate above, whose proof needs what the edit takes away, or an edit of the gate, or nothing. In turn
@@ -39,7 +40,8 @@ class Edit(NamedTuple):
 
     @property
     def crate(self) -> str:
-        return self.path.parent.name
+        folder = self.path.parent
+        return folder.parent.name if folder.name == "must-fail" else folder.name
 
     def __str__(self) -> str:
         return f"{self.crate}/{self.path.name}"
@@ -67,6 +69,16 @@ def edits_of(crate: str) -> list[Edit]:
     """The crate's edits, those first for which nothing stands."""
     found = [read(path) for path in sorted((EDITS / crate).glob("*.edit"))]
     return sorted(found, key=lambda edit: edit.stands != "none")
+
+
+def edits_of_gate() -> list[Edit]:
+    """Those that the gate tries, where one that isn't read fails nothing."""
+    return [read(path) for path in sorted((TOP / "crates").glob("*/must-fail/*.edit"))]
+
+
+def all_edits() -> list[Edit]:
+    """Those that the gate leaves out, and those that it tries."""
+    return [edit for crate in crates_with_edits() for edit in edits_of(crate)] + edits_of_gate()
 
 
 def crates_with_edits() -> list[str]:
@@ -292,7 +304,7 @@ def by_themselves(batch: Batch, named: set[str]) -> Iterator[str]:
 def not_compiled() -> Iterator[str]:
     """Each edit that doesn't reach the prover, with what is said of it."""
     try:
-        made = batches([edit for crate in crates_with_edits() for edit in edits_of(crate)])
+        made = batches(all_edits())
     except (NotApplied, OSError) as fault:
         yield str(fault)
         return
@@ -310,8 +322,7 @@ def compiled() -> int:
     faults = list(not_compiled())
     for fault in faults:
         print(f"edits: {fault}")
-    count = sum(len(edits_of(crate)) for crate in crates_with_edits())
-    print(f"edits: {count} are compiled, {len(faults)} faults")
+    print(f"edits: {len(all_edits())} are compiled, {len(faults)} faults")
     return 1 if faults else 0
 
 
