@@ -1,6 +1,6 @@
 """The command line: mqroute-tools SUBCOMMAND .., and each subcommand under a name of its own.
 
-At Ctrl-C it ends in one line from its beginning on: what takes time to load is imported behind
+At a signal it ends in one line from its beginning on: what takes time to load is imported behind
 that.
 """
 import importlib
@@ -57,11 +57,11 @@ def parsed(parser: "ArgumentParser") -> "Namespace":
 def run(name: str) -> int:
     """Runs a subcommand with the arguments of the process, under the name that stands there."""
     interrupt.handle(interrupt.stop)
-    from argparse import ArgumentParser
     from .common import exit_status
+    from .common.arguments import Parser
     subcommand = cast(
         Subcommand, importlib.import_module(f".{SUBCOMMANDS[name].module}", __package__))
-    parser = ArgumentParser()
+    parser = Parser()
     subcommand.add_arguments(parser)
 
     def work() -> int:
@@ -77,9 +77,16 @@ def main() -> int:
     """mqroute-tools: the first argument names the subcommand, which has the others."""
     sys.argv[0] = NAME
     interrupt.handle(interrupt.stop)
+    from .common import exit_status
+    return exit_status.run(lambda: run(chosen()))
+
+
+def chosen() -> str:
+    """The subcommand, whose arguments are those of the process from here on."""
     import argparse
+    from .common.arguments import Parser
     listed = "".join(f"  {name:13}  {entry.summary}\n" for name, entry in SUBCOMMANDS.items())
-    parser = argparse.ArgumentParser(
+    parser = Parser(
         usage=f"{NAME} [-h] SUBCOMMAND ..",
         description="Tools between mqroute and a real broker. Each subcommand has --help.",
         epilog=f"subcommands:\n{listed}", formatter_class=argparse.RawDescriptionHelpFormatter)
@@ -89,7 +96,7 @@ def main() -> int:
     rest.required = False  # by itself from Python 3.12 on
     options = parser.parse_args()
     sys.argv = [f"{NAME} {options.subcommand}", *options.arguments]
-    return run(options.subcommand)
+    return str(options.subcommand)
 
 
 def log_to_script() -> int:

@@ -283,7 +283,7 @@ plant/a/door  site/a/a/doors/state  plan:4  plant/+hall/door    -> site/a/+hall/
 else          else                  no rule is about it
 """)
         self.write("plan", "a/\x1b/# -> b/#\na/# -> b/#")
-        self.assertIn('plan:2: "a/\\u001b (line 1) and', self.shown(1, "check", "plan"))
+        self.assertIn('plan:2: a/\\u{1b} (line 1) and a ', self.shown(1, "check", "plan"))
         self.write("plan", "a/# -> b/#")
         self.assertEqual(self.shown(1, "name", "plan", "b/x"),
                          "b/x  (none)  the plan takes this name for its own\n")

@@ -106,7 +106,7 @@ class Words(unittest.TestCase):
                       "for example plant/hall/press/temperature\n", plain)
         self.assertNotIn("\33", plain)
         painted = report(found, Terminal(60, True))
-        self.assertIn(f'{RED}  "\\u001b[31mu" loses 3 of 9 (33 %){PLAIN}\n', painted)
+        self.assertIn(f'{RED}  "\\u{{1b}}[31mu" loses 3 of 9 (33 %){PLAIN}\n', painted)
         self.assertIn(f"{GREEN}    may now read  for example plant/hall/press/temperature{PLAIN}\n",
                       painted)
         self.assertEqual(re.sub("\33\\[\\d+m", "", painted), plain)

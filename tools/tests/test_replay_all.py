@@ -112,12 +112,12 @@ class Formats(unittest.TestCase):
         self.assertEqual([(suite.get("name"), suite.get("tests"), suite.get("failures"),
                            suite.get("errors"), suite.get("skipped")) for suite in read],
                          [("s", "2", "1", "0", "0"), ("t", "2", "0", "1", "1")])
-        self.assertEqual(read.find(".//failure").text, "a\n\\u0001<b>")
+        self.assertEqual(read.find(".//failure").text, "a\n\\u{1}<b>")
 
     def test_tap(self):
         found = [line for number, one in enumerate(self.RESULTS, 1)
                  for line in tap_lines(number, one)]
-        self.assertEqual(found, ["ok 1 - s/good", "not ok 2 - s/bad", "# a", "# \1<b>",
+        self.assertEqual(found, ["ok 1 - s/good", "not ok 2 - s/bad", "# a", "# \\u{1}<b>",
                                  "ok 3 - t/out # SKIP why", "not ok 4 - t/no", "# gone"])
 
 

@@ -148,7 +148,7 @@ class Finds(unittest.TestCase):
             raise ConnectionRefusedError(111, "refused")
         broker = Fake(lambda script: script)
         broker.run = gone
-        with self.assertRaisesRegex(Fault, '(?s)the broker is gone.*\n{"do":"connect"'):
+        with self.assertRaisesRegex(Fault, '^the broker is gone.*: {"do":"connect".*}$'):
             searched(broker, 1)
 
     def test_a_difference_that_is_not_seen_again(self):

@@ -1,7 +1,11 @@
 """What a tool shows on standard error, and how it words numbers and failures."""
 import os
 import sys
+import traceback
+from contextlib import suppress
 from pathlib import Path
+
+from .texts import escaped
 
 STDIN = "-"
 SINGULARS = {"copies": "copy", "publishes": "publish"}
@@ -13,13 +17,20 @@ def own_name() -> str:
     return Path(sys.argv[0]).stem
 
 
+def note(text: str) -> None:
+    """One line on standard error, if that takes it."""
+    if sys.stderr is not None:
+        with suppress(OSError):
+            print(escaped(text), file=sys.stderr)
+
+
 def say(text: str) -> None:
-    print(f"{own_name()}: {text}", file=sys.stderr)
+    note(f"{own_name()}: {text}")
 
 
 def named(name: str) -> str:
     """A file as a message names it."""
-    return "standard input" if name == STDIN else name
+    return "standard input" if name == STDIN else escaped(name)
 
 
 def one_of(noun: str) -> str:

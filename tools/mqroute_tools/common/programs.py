@@ -6,6 +6,7 @@ from collections.abc import Callable, Container
 from pathlib import Path
 
 from .exit_status import Fault
+from .texts import lines
 
 HERE = Path(__file__).resolve()
 # in a clone, and where it is installed: beside lib/
@@ -22,6 +23,11 @@ def find_program(variable: str, name: str) -> str:
     return next((path for path in beside if os.access(path, os.X_OK)), shutil.which(name) or name)
 
 
+def on_one_line(said: bytes) -> str:
+    """What a program wrote to standard error."""
+    return "; ".join(lines(said.decode("utf-8", "replace").strip()))
+
+
 def output_of(words: list[str], named: Callable[[str], str] = str,
               statuses: Container[int] = (0, 1),
               out: int = subprocess.PIPE) -> subprocess.CompletedProcess[bytes]:
@@ -32,6 +38,6 @@ def output_of(words: list[str], named: Callable[[str], str] = str,
     except OSError as fault:
         raise Fault(f"cannot run {words[0]}: {fault.strerror}") from fault
     if done.returncode not in statuses:
-        said = named(done.stderr.decode("utf-8", "replace").strip())
+        said = named(on_one_line(done.stderr))
         raise Fault(said or f"{words[0]} ended with status {done.returncode}")
     return done

@@ -1,6 +1,7 @@
 """Tables on a terminal."""
-import json
 from collections.abc import Container, Iterable
+
+from .texts import quoted
 
 
 def table(head: list[str], rows: Iterable[list[str]]) -> str:
@@ -23,13 +24,14 @@ def columns(rows: Iterable[list[str]], right: Container[int] = ()) -> list[str]:
 
 
 def shown(text: str) -> str:
-    """A client id or topic on one line of a table: control characters stand as JSON has them."""
+    """A client id or topic on one line of a table: in quotes where it has characters that are
+    escaped, is empty, or has blanks around it."""
     plain = text.isprintable() and text == text.strip() and text
-    return text if plain else json.dumps(text, ensure_ascii=False)
+    return text if plain else quoted(text)
 
 
 def user_shown(user: str | None) -> str:
     """A user name, or (none); a name that looks so is in quotes."""
     if user is None:
         return "(none)"
-    return json.dumps(user, ensure_ascii=False) if user == "(none)" else shown(user)
+    return quoted(user) if user == "(none)" else shown(user)

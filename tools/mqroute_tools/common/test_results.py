@@ -6,6 +6,7 @@ from itertools import groupby
 from xml.sax.saxutils import escape, quoteattr
 
 from .files import whole
+from .texts import escaped, escaped_lines
 
 
 class Outcome(Enum):
@@ -27,25 +28,20 @@ class Result:
 TAGS = {Outcome.FAILED: "failure", Outcome.ERROR: "error", Outcome.SKIPPED: "skipped"}
 
 
-def plain(text: str) -> str:
-    """Without the characters that XML can't have."""
-    return "".join(c if c in "\t\n" or c >= " " and c not in "\ufffe\uffff"
-                   and not "\ud800" <= c <= "\udfff" else f"\\u{ord(c):04x}" for c in text)
-
-
 def attribute(text: str) -> str:
-    return quoteattr(plain(text).replace("\n", " "))
+    return quoteattr(escaped_lines(text).replace("\n", " "))
 
 
 def case_lines(result: Result) -> list[str]:
     head = (f'<testcase classname={attribute(result.suite)} name={attribute(result.name)} '
             f'time="{result.seconds:.3f}"')
     if result.outcome is Outcome.PASSED:
-        text = f"<system-out>{escape(plain(result.text))}</system-out>" if result.text else ""
+        shown = escape(escaped_lines(result.text))
+        text = f"<system-out>{shown}</system-out>" if shown else ""
         return [f"  {head}>{text}</testcase>"]
     tag, first = TAGS[result.outcome], result.text.partition("\n")[0]
     return [f"  {head}>", f"    <{tag} message={attribute(first)}>"
-            f"{escape(plain(result.text))}</{tag}>", "  </testcase>"]
+            f"{escape(escaped_lines(result.text))}</{tag}>", "  </testcase>"]
 
 
 def junit(results: Iterable[Result]) -> str:
@@ -70,8 +66,8 @@ def write_junit(name: str, results: Iterable[Result]) -> None:
 def tap_lines(number: int, result: Result) -> list[str]:
     """A line of the Test Anything Protocol, with what is wrong as comments behind it."""
     is_right = result.outcome in (Outcome.PASSED, Outcome.SKIPPED)
-    why = result.text.replace("\n", " ")
+    why = escaped_lines(result.text).replace("\n", " ")
     note = f" # SKIP {why}" if result.outcome is Outcome.SKIPPED else ""
-    name = f"{result.suite}/{result.name}".replace("#", "\\#")
-    shown = [] if is_right else [f"# {line}" for line in result.text.split("\n")]
+    name = escaped(f"{result.suite}/{result.name}").replace("#", "\\#")
+    shown = [] if is_right else [f"# {escaped(line)}" for line in result.text.split("\n")]
     return [f"{'' if is_right else 'not '}ok {number} - {name}{note}", *shown]

@@ -6,6 +6,7 @@ from dataclasses import dataclass, field
 from typing import NamedTuple
 
 from ..common.messages import counted
+from ..common.texts import escaped
 from ..script.output import Block, Command, Key, read_json
 from ..script.sessions import Sessions
 
@@ -142,7 +143,8 @@ class Acknowledged(NamedTuple):
 
 
 def both(head: str, mine: object, other: object) -> list[str]:
-    return [f"   {head}", f"      mqroute: {mine}", f"      broker:  {other}"]
+    return [escaped(text) for text in (
+        f"   {head}", f"      mqroute: {mine}", f"      broker:  {other}")]
 
 
 def different_copies(ours: list[Copy], theirs: list[Copy], sessions: Sessions) -> list[str]:

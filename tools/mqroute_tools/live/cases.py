@@ -7,8 +7,10 @@ from typing import Any
 
 from ..common.exit_status import Fault
 from ..common.files import at
+from ..common.texts import escaped
 from ..script.commands import faults
 from ..script.output import Block, Command, blocks
+from .text_files import read_utf8
 
 INDEX = "cases.json"  # of a section
 
@@ -36,7 +38,7 @@ class Case:
     def about(self) -> str:
         """What it shows, and by which sections."""
         where = f" ({', '.join(self.sections)})" if self.sections else ""
-        return f"{self.path}: {self.says or 'as mqroute answers'}{where}"
+        return escaped(f"{self.path}: {self.says or 'as mqroute answers'}{where}")
 
 
 @dataclass(frozen=True)
@@ -58,17 +60,42 @@ def read_commands(file: Path) -> list[Command]:
     return [json.loads(line) for line in lines_of]
 
 
+# of a case in the index, and what they have to be
+WORDS = {"says": "a text", "sections": "a list", "any_member": "a text", "free": "an object"}
+KINDS: dict[str, tuple[type, ...]] = {
+    "says": (str,), "sections": (list,), "any_member": (str, bool), "free": (dict,)}
+
+
 def read_index(folder: Path) -> dict[str, Any]:
     file = folder / INDEX
     if not file.exists():
         return {}
     try:
-        index = json.loads(file.read_text("utf-8"))
-    except (ValueError, UnicodeDecodeError) as fault:
-        raise Fault(f"{file}: not JSON: {fault}") from fault
+        index = json.loads(read_utf8(file))
+    except (ValueError, RecursionError) as fault:
+        why = "nested too deep" if isinstance(fault, RecursionError) else fault
+        raise Fault(f"{file}: not JSON: {why}") from fault
     if not isinstance(index, dict) or not isinstance(index.get("cases", {}), dict):
         raise Fault(f'{file}: must be an object with "title" and "cases"')
+    for name, about in index.get("cases", {}).items():
+        look_at_case(f"{file}: {name}", about)
     return index
+
+
+def look_at_case(place: str, about: Any) -> None:
+    """What an index says of a case."""
+    if not isinstance(about, dict):
+        raise Fault(f"{place}: must be an object")
+    for name, wanted in KINDS.items():
+        if name in about and not isinstance(about[name], wanted):
+            raise Fault(f'{place}: "{name}" must be {WORDS[name]}')
+
+
+def free_lines(file: Path, about: dict[str, Any]) -> dict[int, str]:
+    try:
+        return {int(line): str(why) for line, why in about.get("free", {}).items()}
+    except ValueError as fault:
+        raise Fault(f'{file.parent / INDEX}: {file.stem}: "free" must have lines') from fault
 
 
 def read_case(file: Path, section: str, about: dict[str, Any]) -> Case:
@@ -78,14 +105,10 @@ def read_case(file: Path, section: str, about: dict[str, Any]) -> Case:
     script, expected = read_commands(file), list(blocks(str(output)))
     if [block.line for block in expected] != list(range(1, len(script) + 1)):
         raise Fault(f"{output}: not of {file.name}: another number of lines")
-    try:
-        free = {int(line): str(why) for line, why in about.get("free", {}).items()}
-    except (ValueError, AttributeError) as fault:
-        raise Fault(f'{file.parent / INDEX}: {file.stem}: "free" must have lines') from fault
-    text = acl.read_bytes().decode("utf-8") if acl.exists() else None
+    text = read_utf8(acl) if acl.exists() else None
     return Case(section, file.stem, script, expected, text, file.with_suffix(".options").exists(),
-                str(about.get("says", "")), tuple(map(str, about.get("sections", []))),
-                bool(about.get("any_member")), free)
+                about.get("says", ""), tuple(map(str, about.get("sections", []))),
+                bool(about.get("any_member")), free_lines(file, about))
 
 
 def read_section(folder: Path) -> Section:

@@ -1,11 +1,11 @@
 """What a run of many cases says: those that differ, and a table by section."""
-import json
 from collections import Counter
 from typing import Any
 
 from ..common.messages import counted
-from ..common.tables import table
+from ..common.tables import shown, table
 from ..common.test_results import Outcome as Tested, Result, tap_lines
+from ..common.texts import json_text
 from .cases import Section
 from .corpus_run import CaseResult, Outcome
 
@@ -50,7 +50,7 @@ def as_table(sections: list[Section], results: list[CaseResult]) -> str:
     """How many cases of each section came to what."""
     by_section = {section.name: [result for result in results
                                  if result.case.section == section.name] for section in sections}
-    rows = [[section.title, *counts(by_section[section.name])] for section in sections]
+    rows = [[shown(section.title), *counts(by_section[section.name])] for section in sections]
     head = ["section", "cases", *(outcome.value for outcome in SHOWN)]
     return table(head, [*rows, ["all", *counts(results)]])
 
@@ -67,4 +67,4 @@ def notes(results: list[CaseResult]) -> list[str]:
 def as_json(results: list[CaseResult]) -> str:
     """A line for the end."""
     held = Counter(result.outcome.value for result in results)
-    return json.dumps({"cases": len(results), **{one.value: held[one.value] for one in SHOWN}})
+    return json_text({"cases": len(results), **{one.value: held[one.value] for one in SHOWN}})

@@ -19,6 +19,7 @@ from ..common.files import at, keep_apart, open_input, refuse_stdin_twice
 from ..common.messages import counted, in_words, say
 from ..common.option_values import whole_number
 from ..common.progress import Progress
+from ..common.texts import json_text
 from ..script.commands import Seen, line_faults
 from ..script.oracle import RULES, Oracle, answers
 from ..script.output import Block, Command, blocks, by_key, is_blank, misfit
@@ -113,7 +114,7 @@ def differences(replay: "Replay", options: argparse.Namespace,
     while place < len(lines):
         number, command, _ = line = lines[place]
         progress.at(number, len(script))
-        head = f"line {number}: {json.dumps(command, ensure_ascii=False)}"
+        head = f"line {number}: {json_text(command)}"
         try:
             found = answer(replay, options.script, line)
         except RunEnds as fault:

@@ -1,6 +1,5 @@
 """replay --all: runs all cases of a folder on a live broker."""
 import argparse
-import json
 from pathlib import Path
 
 from ..common.exit_status import Fault
@@ -8,6 +7,7 @@ from ..common.files import whole
 from ..common.messages import say
 from ..common.progress import Progress
 from ..common.test_results import write_junit
+from ..common.texts import json_text
 from ..script.oracle import Oracle, OracleFault
 from .cases import Section, read_sections
 from .corpus_report import as_json, as_object, as_table, as_tap, as_test, as_text, notes
@@ -27,7 +27,7 @@ def save(result: CaseResult, folder: Path) -> None:
 def show(result: CaseResult, options: argparse.Namespace) -> None:
     differs = result.outcome is Outcome.DIFFERS
     if options.json:
-        print(json.dumps(as_object(result), ensure_ascii=False), flush=True)
+        print(json_text(as_object(result)), flush=True)
     elif not options.tap and (differs or (options.verbose and result.differences)):
         print(as_text(result), flush=True)
     if differs and options.save:

@@ -1,4 +1,6 @@
 """How a run of a script ends before its last line."""
+from ..common.texts import escaped
+
 NOT_RUN = "; the lines after this one are not run"
 NEVER = float("inf")  # a moment that doesn't come
 
@@ -8,8 +10,8 @@ class RunEnds(Exception):
     word or two: closed, refused, no answer, no end, no MQTT."""
 
     def __init__(self, what: str, text: str) -> None:
-        super().__init__(text + NOT_RUN)
-        self.what, self.why = what, text
+        self.what, self.why = what, escaped(text)
+        super().__init__(self.why + NOT_RUN)
 
 
 class TimeIsUp(Exception):

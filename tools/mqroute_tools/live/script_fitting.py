@@ -2,10 +2,12 @@
 import json
 from collections import Counter
 from collections.abc import Iterable
+from pathlib import Path
 
 from ..script.output import Command, command_of
 from ..script.sessions import FOREVER
 from .offer import Offer
+from .text_files import read_utf8
 
 LEFT_OUT = "left out"
 WITHOUT = "sent without"
@@ -87,5 +89,4 @@ def fitted_commands(script: Iterable[Command],
 
 def read_list(name: str) -> str:
     """The text of an access list."""
-    with open(name, encoding="utf-8", newline="") as file:
-        return file.read()
+    return read_utf8(Path(name))

@@ -9,6 +9,7 @@ import time
 from collections.abc import Iterator
 
 from ..common.exit_status import Fault
+from ..common.texts import lines
 from .options import BrokerOptions
 
 LISTENS = 30.0  # seconds until it has to
@@ -63,7 +64,7 @@ def started(command: str | None, options: BrokerOptions) -> Iterator[None]:
             why = wait_for(options, broker)
             if why:
                 said.seek(0)
-                last = said.read().decode("utf-8", "replace").splitlines()[-SHOWN:]
+                last = lines(said.read().decode("utf-8", "replace"))[-SHOWN:]
                 raise Fault("; ".join([f"the command of --start: {why}", *last]))
             yield
         finally:

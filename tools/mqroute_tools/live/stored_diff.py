@@ -1,15 +1,16 @@
 """What differed, as replay prints it and as a NAME.diff has it."""
-import json
 import re
 from collections.abc import Iterable
 from pathlib import Path
 
 from ..common.exit_status import Fault
 from ..common.files import at
+from ..common.texts import escaped, json_text, lines
 from ..script.output import Command
 from .broker_diff import EXPIRY_SLACK
 from .line_difference import LineDifference
 from .run_ends import NOT_RUN
+from .text_files import read_utf8
 from .wills import PAYLOAD
 
 HEAD = re.compile(r"line (\d+): ")  # how what differs at a line begins
@@ -32,7 +33,7 @@ def are_near(texts: list[str], others: list[str]) -> bool:
 
 
 def head(line: int, command: Command) -> str:
-    return f"line {line}: {json.dumps(command, ensure_ascii=False)}"
+    return f"line {line}: {json_text(command)}"
 
 
 def report(script: list[Command], differences: Iterable[LineDifference]) -> list[str]:
@@ -44,13 +45,13 @@ def report(script: list[Command], differences: Iterable[LineDifference]) -> list
 def read_differences(file: Path, script: list[Command]) -> list[LineDifference]:
     """What a .diff has, of the script beside it."""
     found: list[LineDifference] = []
-    for number, text in enumerate(file.read_text("utf-8").splitlines(), 1):
+    for number, text in enumerate(lines(read_utf8(file)), 1):
         begins = HEAD.match(text)
         if begins and 0 < int(begins[1]) <= len(script):
             line = int(begins[1])
             found.append(LineDifference(line, did(script, line), []))
         elif text.startswith(INDENT) and found:
-            found[-1].texts.append(text)
+            found[-1].texts.append(escaped(text))
         else:
             raise Fault(f"{at(str(file), number)}: not of {file.with_suffix('.jsonl').name}")
     return [LineDifference(one.line, one.did, one.texts, ended(one.texts)) for one in found]

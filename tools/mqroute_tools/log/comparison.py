@@ -2,6 +2,7 @@
 from collections import Counter, defaultdict
 from collections.abc import Iterable, Set
 
+from ..common.texts import in_quotes
 from ..script.output import Command, Key
 from ..script.sessions import Sessions
 from ..script.topics import matches, plain_filter
@@ -64,7 +65,8 @@ class Comparison:
         one, other = Counter(step.broker.refused), Counter(step.mqroute.refused)
         for client, topic in sorted((one - other) + (other - one)):
             who = "the broker" if one[client, topic] else "mqroute"
-            self.refusals.append(f"refused by {who} alone: line {step.place}: {client!r} {topic!r}")
+            self.refusals.append(f"refused by {who} alone: line {step.place}: "
+                                 f"{in_quotes(client)} {in_quotes(topic)}")
 
     def spread(self, step: Step, key: Key) -> int:
         """How many copies of a message the broker sends: with MQTT 5 one for each subscription."""

@@ -1,7 +1,6 @@
 """What is listed beside the script."""
 import re
-from collections.abc import Callable
-from typing import TextIO
+from collections.abc import Callable, Iterator
 
 from ..common.messages import one_of, own_name
 
@@ -39,11 +38,11 @@ class Notes:
         if len(shown) < SHOWN:
             shown.append(example if len(example) <= 160 else example[:160] + "...")
 
-    def write(self, out: TextIO, where: Callable[[int], str] = "line {}".format) -> None:
+    def lines(self, where: Callable[[int], str] = "line {}".format) -> Iterator[str]:
         """`where` gives the file and its line for a line of all files."""
         for what, count in self.counts.items():
-            print(f"{own_name()}: {count} {of_one(what) if count == 1 else what}", file=out)
+            yield f"{own_name()}: {count} {of_one(what) if count == 1 else what}"
             for example in self.examples[what]:
-                print(f"    {PLACE.sub(lambda line: where(int(line[1])), example, 1)}", file=out)
+                yield f"    {PLACE.sub(lambda line: where(int(line[1])), example, 1)}"
             if count > SHOWN:
-                print(f"    and {count - SHOWN} more", file=out)
+                yield f"    and {count - SHOWN} more"

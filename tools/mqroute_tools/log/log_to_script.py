@@ -18,7 +18,8 @@ from itertools import starmap
 from typing import IO
 
 from ..common.files import STDIN, keep_apart, refuse_stdin_twice, whole
-from ..common.messages import counted, say
+from ..common.messages import counted, note, say
+from ..common.texts import json_escaped
 from ..script.output import Command
 from .clients import INFERRED, NONE, SEEN
 from .conversion import placed_commands
@@ -26,13 +27,13 @@ from .log_files import Logs
 from .options import add_log_options
 from .script_writer import Writer, read_logs
 
-value_text = json.JSONEncoder(ensure_ascii=False).encode
+raw_text = json.JSONEncoder(ensure_ascii=False).encode
 
 
 @lru_cache(1 << 14, typed=True)
 def field_text(name: str, value: str | int) -> str:
     """As JSON; most names and topics of a log come again and again."""
-    return f'"{name}":{value_text(value)}'
+    return f'"{name}":{json_escaped(raw_text(value))}'
 
 
 def text_of(command: Command) -> str:
@@ -61,7 +62,8 @@ def sum_up(found: Writer, logs: Logs, written: int) -> None:
         copies = counted(seen + inferred + none, "copies")
         say(f"the broker sent {copies}: the script explains {seen} by subscriptions in "
             f"the log and {inferred} by inferred ones, and doesn't explain {none}")
-    found.notes.write(sys.stderr, logs.where)
+    for line in found.notes.lines(logs.where):
+        note(line)
 
 
 def add_arguments(parser: argparse.ArgumentParser) -> None:

@@ -1,6 +1,7 @@
 """One line of the report on a log: the copies of one client and topic that differ at a step."""
 from dataclasses import dataclass
 
+from ..common.texts import in_quotes
 from ..script.output import Key
 from .steps import Copy
 
@@ -33,6 +34,7 @@ class Line:
         return differ(self.theirs, self.ours)
 
     def __str__(self) -> str:
+        client, topic = map(in_quotes, self.key)
         late = f" (by line {self.last})" if self.last else ""
-        return (f"{self.kind}: line {self.place}: {self.key[0]!r} {self.key[1]!r}: "
+        return (f"{self.kind}: line {self.place}: {client} {topic}: "
                 f"broker {shown(self.theirs)}{late}; mqroute {shown(self.ours)}")

@@ -2,19 +2,18 @@
 nor a direction of writing."""
 import html
 
+from ..common import texts
 from ..common.tables import shown, user_shown
 from .findings import Subject
 
 
 def visible(text: str) -> str:
-    """A client id or topic for a page. Characters that aren't seen, or that turn text round,
-    are listed by their numbers."""
+    """A client id or topic for a page."""
     return escaped(shown(text))
 
 
 def escaped(text: str) -> str:
-    seen = "".join(c if c == " " or c.isprintable() else f"\\u{ord(c):04x}" for c in text)
-    return html.escape(seen, quote=True)
+    return html.escape(texts.escaped(text), quote=True)
 
 
 def marked(row: Subject) -> str:

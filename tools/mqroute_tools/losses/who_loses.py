@@ -4,12 +4,12 @@ Exit status: 0 nothing changes; 1 something does; 2 usage, a file, or outputs th
 script.
 """
 import argparse
-import json
 import sys
 
 from ..common.exit_status import UsageFault
 from ..common.files import STDIN, keep_apart, refuse_stdin_twice
 from ..common.option_values import whole_number
+from ..common.texts import json_text
 from ..plan.topic_plan import read_plan
 from ..script.access_list import AccessList
 from . import html_page
@@ -99,8 +99,8 @@ def through_plan(options: argparse.Namespace) -> Findings:
 
 def say(options: argparse.Namespace, found: Findings) -> int:
     if options.json:
-        text = json.dumps(found.json(), ensure_ascii=False, indent=1) + "\n"
+        text = json_text(found.json(), indent=1) + "\n"
     else:
         text = report(found)
-    sys.stdout.buffer.write(text.encode("utf-8"))
+    sys.stdout.buffer.write(text.encode())
     return 1 if found.copies or found.refused else 0

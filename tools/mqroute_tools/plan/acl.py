@@ -1,10 +1,8 @@
 """plan acl: writes an access list under a plan, and says whether it allows the same."""
 import argparse
-import sys
 
 from ..common.files import at
-from ..common.messages import say
-from ..common.tables import shown
+from ..common.messages import note, say
 from .list_translation import notes_on, translated
 from .report import write
 from .topic_plan import read_plan, read_text
@@ -18,8 +16,8 @@ def run(options: argparse.Namespace) -> int:
     made = translated(Translator(plan), text, options.list, options.both)
     found = notes_on(plan, made, text, options.list)
     write(made.text)
-    for note in found:
-        print(f"{at(options.list, note.line)}: {shown(note.words)}", file=sys.stderr)
-    if any(note.is_difference for note in found):
+    for one in found:
+        note(f"{at(options.list, one.line)}: {one.words}")
+    if any(one.is_difference for one in found):
         say(INEXACT)
     return int(bool(found))

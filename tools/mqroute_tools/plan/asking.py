@@ -12,6 +12,7 @@ from pathlib import Path
 from typing import Any
 
 from ..common.programs import find_program, output_of
+from ..common.texts import lines
 from .filters import Levels, text_of
 from .plan_lines import BLANKS, LONGEST, MARKS
 from .topic_plan import Plan
@@ -77,7 +78,7 @@ def differences(plan: Plan, old: str, new: str,
         words = [program, "compare", "--json", "--rules=own", f"--plan={paths[0]}", "--",
                  str(paths[1]), str(paths[2])]
         done = output_of(words, named)
-    return [difference_of(json.loads(line)) for line in done.stdout.decode().splitlines()]
+    return [difference_of(json.loads(line)) for line in lines(done.stdout.decode())]
 
 
 def difference_of(row: dict[str, Any]) -> Difference:

@@ -1,11 +1,11 @@
 """A script in which some clients use new names and the others old ones, and a bridge carries each
 message over: what it is sent in a run of mqroute it publishes under the other name."""
 import fnmatch
-import json
 from collections.abc import Iterable
 
 from ..common.exit_status import Fault
 from ..common.files import at
+from ..common.texts import quoted
 from ..script.oracle import Oracle, OracleFault
 from ..script.output import Answer, Command, command_of
 from ..script.strict_json import NoJson, read
@@ -89,7 +89,7 @@ class Bridge:
 
     def refuse_taken(self, lines: list[bytes]) -> None:
         if any((command_of(line) or {}).get("client") == self.client for line in lines):
-            raise Fault(f"the script has a client {json.dumps(self.client)} of its own: name the "
+            raise Fault(f"the script has a client {quoted(self.client)} of its own: name the "
                         "bridge otherwise, by --bridge")
 
     def fed(self, lines: list[bytes]) -> list[Answer]:

@@ -4,8 +4,9 @@ from dataclasses import dataclass
 
 from ..common.exit_status import Fault
 from ..common.files import at
+from ..common.texts import quoted
 from .filters import Levels, is_filter, levels, text_of
-from .plan_lines import BLANKS, LineFault, MARKS, quoted, split_word, trimmed
+from .plan_lines import BLANKS, LineFault, MARKS, split_word, trimmed
 
 ACCESS = ("read", "write", "readwrite", "deny")
 

@@ -4,6 +4,7 @@ import argparse
 from ..common.exit_status import Fault
 from ..common.files import at
 from ..common.tables import columns, shown
+from ..common.texts import quoted
 from .filter_words import NOTHING, Judged, verdict_words
 from .filters import Levels, is_name, levels, split_share, text_of
 from .report import write
@@ -20,8 +21,7 @@ def run(options: argparse.Namespace) -> int:
     for text in options.text:
         parts = split_share(text)
         if parts is None:
-            quoted = f'"{text}"' if shown(text) == text else shown(text)
-            raise Fault(f"{quoted} is neither a topic nor a filter")
+            raise Fault(f"{quoted(text)} is neither a topic nor a filter")
         filters += [] if is_name(levels(text)) else [parts[1]]
     known = Judged(Translator(plan), list(dict.fromkeys(filters)))
     rows: Rows = []

@@ -1,6 +1,7 @@
 """The lines of a plan: rules, and what is wrong with a line (docs/definitions/plans.md)."""
 import re
 
+from ..common.texts import quoted
 from .filters import HASH, MOST_LEVELS, PLUS, is_filter_level
 from .rules import Capture, Item, Rule, Side
 
@@ -11,7 +12,6 @@ ARROW = re.compile(r"[ \t]->(?=[ \t]|\Z)")
 MOVED_HASH = re.compile(r"#[ \t]+->(?:[ \t]|\Z)")
 MARKS = ("%c", "%u")
 EXPECTED = "expected FROM -> TO, keep FROM or none FROM"
-ESCAPES = {'"': '\\"', "\\": "\\\\", "\t": "\\t", "\r": "\\r", "\n": "\\n", "\0": "\\0"}
 
 
 class LineFault(Exception):
@@ -115,9 +115,3 @@ def numbered(side: Side) -> Side:
             count += 1
             made[place] = Capture(f" {count}")
     return tuple(made)
-
-
-def quoted(text: str) -> str:
-    """As mqroute-acl quotes a level."""
-    return '"' + "".join(
-        ESCAPES.get(c) or (c if c.isprintable() else f"\\u{{{ord(c):x}}}") for c in text) + '"'

@@ -1,10 +1,9 @@
 """What the tool shows: lines, or objects for --json; and whether something is to be looked at."""
-import json
 import sys
 from typing import Any
 
 from ..common.files import at
-from ..common.tables import shown
+from ..common.texts import escaped, json_text
 
 Json = dict[str, Any]
 
@@ -16,7 +15,7 @@ class Report:
         self.odd = False
 
     def remark(self, where: str, number: int, words: str, **more: Any) -> None:
-        self.lines.append(f"{at(where, number)}: {shown(words)}")
+        self.lines.append(f"{at(where, number)}: {escaped(words)}")
         said = {"kind": "remark", "file": where, "line": number, "words": words}
         self.objects.append(said | more)
         self.odd = True
@@ -28,8 +27,7 @@ class Report:
 
     def text(self, as_json: bool) -> str:
         if as_json:
-            return "".join(json.dumps(one, ensure_ascii=False, sort_keys=True) + "\n"
-                           for one in self.objects)
+            return "".join(json_text(one, sort_keys=True) + "\n" for one in self.objects)
         lines = self.lines[:-1] if self.lines[-1:] == [""] else self.lines
         return "".join(line + "\n" for line in lines)
 

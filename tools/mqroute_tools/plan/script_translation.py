@@ -1,10 +1,10 @@
 """A script under a plan: for each of its lines the new ones, and what occurs in it."""
-import json
 from collections.abc import Callable, Iterator
 from dataclasses import dataclass, field
 
 from ..common.exit_status import Fault
 from ..common.files import open_input
+from ..common.texts import json_text
 from ..script.commands import Seen
 from ..script.output import Command, command_of
 from .filters import Levels, is_name, levels, split_share, text_of
@@ -73,7 +73,8 @@ def read_lines(name: str) -> list[bytes]:
 
 
 def rewritten(translator: Translator, lines: list[bytes], is_moved: Moved = everyone) -> NewScript:
-    """An invalid line stays as it is: mqroute refuses it."""
+    """An invalid line stays as it is: mqroute refuses it. So does a command that stays, but for
+    characters that are escaped."""
     made = NewScript(lines)
     for number, line in enumerate(lines, 1):
         command = command_of(line) or {}
@@ -83,13 +84,21 @@ def rewritten(translator: Translator, lines: list[bytes], is_moved: Moved = ever
         else:
             new = new_commands(translator, made, number, command)
         stays = new == [command] or not (is_list or is_moved(command.get("client")))
-        made.lines.append([line] if stays else [text_of_command(one) for one in new])
+        if stays and (not command or is_plain(line)):
+            made.lines.append([line])
+        else:
+            made.lines.append([text_of_command(one) for one in ([command] if stays else new)])
     return made
 
 
+def is_plain(line: bytes) -> bool:
+    """A tab or a carriage return between its texts is none of a name's."""
+    text = line.decode("utf-8", "replace")
+    return text.replace("\t", " ").removesuffix("\r").isprintable()
+
+
 def text_of_command(command: Command) -> bytes:
-    text = json.dumps(command, ensure_ascii=False, separators=(",", ":"))
-    return text.encode("utf-8", "surrogatepass")
+    return json_text(command, separators=(",", ":")).encode()
 
 
 def new_commands(translator: Translator, made: NewScript, number: int,

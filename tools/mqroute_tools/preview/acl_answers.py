@@ -6,6 +6,7 @@ from collections.abc import Callable, Iterator
 
 from ..common.messages import named
 from ..common.programs import output_of
+from ..common.texts import lines as lines_of
 from ..script.access_list import AccessList, Line
 from .findings import Client, Deciding, Json, Remark, Right, Subscription
 
@@ -35,8 +36,8 @@ class Lists:
         rules = [f"--rules={self.rules or 'own'}"] if quiet or self.rules else []
         given = [self.current.program, subcommand, "--json", *rules, *words]
         done = output_of(given, self.named)
-        shown = [json.loads(line) for line in done.stdout.decode("utf-8").splitlines()]
-        notes = self.named(done.stderr.decode("utf-8", "replace")).splitlines()
+        shown = [json.loads(line) for line in lines_of(done.stdout.decode("utf-8"))]
+        notes = lines_of(self.named(done.stderr.decode("utf-8", "replace")))
         return shown, notes
 
     def named(self, text: str) -> str:

@@ -2,12 +2,11 @@
 compared."""
 import argparse
 import os
-import sys
 from dataclasses import dataclass
 from pathlib import Path
 
 from ..common.files import at
-from ..common.messages import say
+from ..common.messages import note, say
 from ..common.programs import output_of
 from ..common.progress import Progress
 from ..losses import acl_verdicts
@@ -122,8 +121,8 @@ def asked_first(lists: Lists, steps: Steps) -> Answers:
     steps.next()
     remarks = list(lists.new_remarks())
     steps.clear()
-    for note in notes:
-        print(note, file=sys.stderr)
+    for one in notes:
+        note(one)
     return Answers(rights, notes, remarks, [])
 
 

@@ -7,7 +7,6 @@ lists, and what differs is found as by who-loses.
 Exit status: 0 nothing changes; 1 something does; 2 usage, or a file or a program failed.
 """
 import argparse
-import json
 import os
 import sys
 from pathlib import Path
@@ -16,6 +15,7 @@ from ..common.exit_status import UsageFault
 from ..common.files import keep_apart, refuse_stdin_twice
 from ..common.option_values import whole_number
 from ..common.terminal import standard_output
+from ..common.texts import json_text
 from ..log.options import add_log_options
 from ..script.oracle import RULES
 from . import kept_folder
@@ -70,7 +70,7 @@ def run(options: argparse.Namespace) -> int:
         if options.keep is not None:
             kept_folder.keep(folder, options.keep)
     if options.json:
-        text = json.dumps(found.json(words.summary(found)), ensure_ascii=False, indent=1) + "\n"
+        text = json_text(found.json(words.summary(found)), indent=1) + "\n"
     else:
         text = text_report.report(found, standard_output())
     sys.stdout.buffer.write(text.encode("utf-8", "backslashreplace"))

@@ -1,5 +1,4 @@
 """What a preview finds, as text for a terminal or a file."""
-import json
 from collections.abc import Callable, Iterable, Iterator
 from typing import TypeVar
 
@@ -7,6 +6,7 @@ from ..common.files import at
 from ..common.messages import named
 from ..common.tables import shown
 from ..common.terminal import BOLD, DIM, GREEN, RED, Terminal
+from ..common.texts import quoted
 from ..script.access_list import Line
 from .findings import (
     Carried, Cause, Deciding, Preview, RefusedRow, Remark, Right, Subscription, UserRow)
@@ -177,7 +177,7 @@ class Report:
 
 def listed(name: str) -> str:
     """In quotes too where it could be taken for several."""
-    return json.dumps(name, ensure_ascii=False) if ", " in name else shown(name)
+    return quoted(name) if ", " in name else shown(name)
 
 
 def renamed(found: Preview) -> str:

@@ -13,6 +13,7 @@ from typing import Any, NamedTuple
 from ..common.files import STDIN, open_input, plain_file
 from ..common.messages import named
 from ..common.programs import find_program, output_of
+from ..common.texts import escaped, lines
 
 NO_LINE = "no line allows it"
 CLIENT_MARK = b"%c"
@@ -40,7 +41,7 @@ class Verdict:
     def in_words(self) -> str:
         """The line that decides."""
         line = self.deciding_line()
-        return f"{line.line}: {line.text.strip()}" if line else NO_LINE
+        return f"{line.line}: {escaped(line.text.strip())}" if line else NO_LINE
 
 
 class Question(NamedTuple):
@@ -84,7 +85,7 @@ class AccessList:
         words = [self.program, "why", "--json", *self.options, *user, "--", self.path,
                  asked.client, asked.topic]
         done = output_of(words, lambda text: text.replace(self.path, named(self.name)), (0,))
-        shown = map(self.verdict_of, done.stdout.decode("utf-8").splitlines())
+        shown = map(self.verdict_of, lines(done.stdout.decode("utf-8")))
         return {one.access: one for one in shown}
 
     def verdict_of(self, text: str) -> Verdict:

@@ -1,9 +1,9 @@
 """The commands and their fields, and what is wrong with a line that is none."""
 import difflib
-import json
 from collections.abc import Iterable, Iterator
 from typing import Any, NamedTuple
 
+from ..common.texts import json_text
 from .file_kinds import HEAD, LOG, wrong
 from .output import Command, command_of, is_blank
 from .strict_json import NoJson, read
@@ -44,7 +44,7 @@ REQUIRED = {do: {name for name, field in fields.items() if field.required}
 
 
 def shown(value: Any) -> str:
-    text = json.dumps(value, ensure_ascii=False)
+    text = json_text(value)
     return text if len(text) <= LONGEST_SHOWN else text[:LONGEST_SHOWN] + ".."
 
 
@@ -85,7 +85,7 @@ def field_faults(do: str, command: Command) -> Iterator[str]:
         yield f"{do} has no field {shown(name)}{guess(name, absent)}"
     for name in absent:
         if fields[name].required:
-            yield f"{do} needs the field {json.dumps(name)}"
+            yield f"{do} needs the field {json_text(name)}"
     for name, field in fields.items():
         fault = value_fault(field, command[name]) if name in command else ""
         if fault:

@@ -4,6 +4,7 @@ import re
 
 from ..common.exit_status import Fault
 from ..common.messages import named
+from ..common.texts import escaped, lines as lines_of
 from .syslog import PREFIX
 
 HEAD = 1 << 14  # bytes that are looked at
@@ -68,7 +69,7 @@ def kind(head: bytes) -> str:
     if b"\0" in head:
         return BYTES
     text = head.decode("utf-8", "replace")
-    lines = [line for line in text.splitlines() if line.strip()]
+    lines = [line for line in lines_of(text) if line.strip()]
     if not lines:
         return ""
     plain = [line for line in lines if not line.lstrip().startswith(COMMENTS)]
@@ -84,9 +85,8 @@ def kind(head: bytes) -> str:
 def first_line(head: bytes) -> str:
     """The first line that isn't blank, as far as it is shown."""
     text = head.decode("utf-8", "backslashreplace")
-    line = next((line for line in text.splitlines() if line.strip()), "").strip()
-    seen = "".join(c if c.isprintable() else f"\\u{ord(c):04x}" for c in line[:SHOWN])
-    return seen + (" .." if len(line) > SHOWN else "")
+    line = next((line for line in lines_of(text) if line.strip()), "").strip()
+    return escaped(line[:SHOWN]) + (" .." if len(line) > SHOWN else "")
 
 
 def is_empty(head: bytes) -> bool:

@@ -3,6 +3,7 @@ import re
 import secrets
 from collections.abc import Callable, Iterable
 
+from ..common.texts import ended_lines
 from .output import Command
 
 MARK = "Z"  # around what is counted
@@ -38,7 +39,7 @@ def fresh_name(name: str, mark: str) -> str:
 def with_names(text: str, named: Callable[[str], str]) -> str:
     """An access list whose lines speak of other names. Lines that name users stay."""
     return "".join(line if line.startswith(("user ", "#")) or " " not in line
-                   else with_name(line, named) for line in text.splitlines(True))
+                   else with_name(line, named) for line in ended_lines(text))
 
 
 def with_name(line: str, named: Callable[[str], str]) -> str:

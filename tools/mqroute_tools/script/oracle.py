@@ -8,7 +8,7 @@ from pathlib import Path
 from typing import IO
 
 from ..common.exit_status import Fault
-from ..common.programs import find_program
+from ..common.programs import find_program, on_one_line
 from .output import Answer, Block, Command, blocks_of
 
 
@@ -39,7 +39,7 @@ def each_answer(words: list[str], script: Iterable[bytes], first: int = 1) -> It
         except OSError as fault:
             raise Fault(f"cannot run {words[0]}: {fault.strerror}") from fault
         if done.returncode not in (0, 1):
-            raise Fault(done.stderr.decode("utf-8", "replace").strip()
+            raise Fault(on_one_line(done.stderr)
                         or f"mqroute ended with status {done.returncode}")
         written.seek(0)
         # no text in an answer has these bytes: its quotes are escaped
@@ -92,7 +92,7 @@ class Conversation:
             pass  # the program has ended before it read all
         self.output.close()
         with self.shown as stream:
-            shown = stream.read().decode("utf-8", "replace").strip()
+            shown = on_one_line(stream.read())
         self.program.wait()
         return shown
 

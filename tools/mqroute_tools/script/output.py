@@ -8,6 +8,7 @@ from typing import Any, NamedTuple
 
 from ..common.exit_status import Fault
 from ..common.files import at, open_text
+from ..common.texts import in_quotes
 from .file_kinds import HEAD, kind
 from .json_lines import line_reader
 
@@ -195,9 +196,10 @@ def misfit(command: Command | None, block: Block, keys: Iterable[Key]) -> str:
         return f"reason {block.reason} for the command {do}"
     for receiver, topic in keys:
         if do == "publish" and topic != command.get("topic"):
-            return f"a copy of the topic {topic!r}, which isn't the one that is published"
+            return f"a copy of the topic {in_quotes(topic)}, which isn't the one that is published"
         if do in ("connect", "subscribe") and receiver != client:
-            return f"a copy for {receiver!r}, where {client!r} connects or subscribes"
+            return (f"a copy for {in_quotes(receiver)}, where {in_quotes(str(client))} connects "
+                    "or subscribes")
         if do not in ("publish", "connect", "subscribe"):
             return f"a copy for the command {do}"
     return ""

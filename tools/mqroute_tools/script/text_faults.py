@@ -1,8 +1,8 @@
 """What is wrong with the texts of a command, for which mqroute refuses it whatever the lines
 before it are: client ids, user names, topics, filters."""
-import json
 from collections.abc import Iterator
 
+from ..common.texts import json_text
 from .output import Command
 from .topics import plain_filter
 
@@ -86,5 +86,4 @@ def text_faults(command: Command) -> Iterator[str]:
 
 
 def shown(text: str) -> str:
-    return json.dumps(text if len(text) <= LONGEST_SHOWN else text[:LONGEST_SHOWN] + "..",
-                      ensure_ascii=False)
+    return json_text(text if len(text) <= LONGEST_SHOWN else text[:LONGEST_SHOWN] + "..")

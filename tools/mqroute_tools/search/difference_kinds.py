@@ -4,6 +4,7 @@ import re
 from collections.abc import Iterator
 from typing import NamedTuple
 
+from ..common.texts import lines as lines_of
 from ..live.stored_diff import are_near, is_near
 from ..live.wills import PAYLOAD
 from ..script.output import Command
@@ -158,7 +159,7 @@ def of_publish(command: Command) -> set[str]:
 
 def of_access(text: str) -> set[str]:
     """What an access list says, and the signs that its names have."""
-    lines = [line.split(" ") for line in text.splitlines()]
+    lines = [line.split(" ") for line in lines_of(text)]
     signs = {"acl " + sign for sign in ("#", "+", "%c", "%u")
              for words in lines if sign in words[-1]}
     return {"acl"} | {" ".join(words[:-1]) or words[0] for words in lines} | signs

@@ -1,5 +1,4 @@
 """Scripts that differ, each made as small as it goes on differing in that way."""
-import json
 import time
 from collections.abc import Iterator
 from dataclasses import dataclass, field
@@ -7,6 +6,7 @@ from typing import Protocol
 
 from ..common.exit_status import Fault
 from ..common.messages import in_words
+from ..common.texts import json_text
 from ..live.line_difference import LineDifference
 from ..live.run_ends import NEVER, TimeIsUp
 from ..live.stored_diff import head
@@ -68,7 +68,7 @@ def report(script: Script, differences: list[Difference]) -> list[str]:
 
 
 def as_json(value: Command) -> str:
-    return json.dumps(value, separators=(",", ":"), ensure_ascii=False)
+    return json_text(value, separators=(",", ":"))
 
 
 @dataclass
@@ -107,9 +107,9 @@ class Search:
         try:
             found = self.broker.run(marked, blocks, self.until, patience)
         except OSError as fault:
-            text = "\n".join(map(as_json, script))
+            text = " ".join(map(as_json, script))
             raise Fault(f"the broker is gone ({in_words(fault)}) in this script, "
-                        f"or after the one before:\n{text}") from fault
+                        f"or after the one before: {text}") from fault
         return [one for line in found
                 for one in separate(line.line, line.did, [text.replace(mark, "")
                                                           for text in line.texts], line.ended)]

@@ -1,6 +1,5 @@
 """What a search says: its finds as it goes, and what was done at the end."""
 import argparse
-import json
 import re
 import time
 from pathlib import Path
@@ -10,6 +9,7 @@ from ..common.exit_status import Fault
 from ..common.files import whole
 from ..common.messages import counted, say
 from ..common.test_results import Outcome, Result, write_junit
+from ..common.texts import json_text
 from .difference_kinds import Difference
 from .finds import Find, Search, Unrepeated, report
 
@@ -56,7 +56,7 @@ class Report:
         self.finds.append(find)
         number = self.before + len(self.finds)
         if self.options.json:
-            print(json.dumps(self.find_object(find, number), ensure_ascii=False), flush=True)
+            print(json_text(self.find_object(find, number)), flush=True)
         else:
             uses = f"with {', '.join(sorted(find.kind.uses))}"
             print("\n".join([self.head(find, number), uses, *find.lines(), "", *find.report(), ""]),
@@ -94,14 +94,14 @@ class Report:
             for passing in search.passing:
                 print("\n".join([*self.passing_lines(passing), ""]), flush=True)
         if self.options.json:
-            print(json.dumps(self.summary(), ensure_ascii=False), flush=True)
+            print(json_text(self.summary()), flush=True)
         if self.options.junit:
             write_junit(self.options.junit, self.results())
         say(self.sums())
 
     def passing_lines(self, passing: Unrepeated) -> list[str]:
         return [f"not seen again: {passing.difference.what}; {self.origin(passing.number)}",
-                *(json.dumps(line, ensure_ascii=False) for line in passing.script), "",
+                *(json_text(line) for line in passing.script), "",
                 *report(passing.script, [passing.difference])]
 
     def summary(self) -> dict[str, Any]:

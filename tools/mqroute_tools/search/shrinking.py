@@ -3,6 +3,7 @@ names and fields made simpler."""
 import json
 from collections.abc import Callable, Iterator
 
+from ..common.texts import ended_lines
 from ..script.fresh_names import with_names
 from ..script.output import Command
 
@@ -123,7 +124,7 @@ def with_simpler_fields(script: Script) -> Iterator[Script]:
 def with_shorter_lists(script: Script) -> Iterator[Script]:
     """Access lists with a line less."""
     for at, command in enumerate(script):
-        lines = command.get("text", "").splitlines(True)
+        lines = ended_lines(command.get("text", ""))
         for left_out in range(len(lines) if len(lines) > 1 else 0):
             shorter = {"text": "".join(lines[:left_out] + lines[left_out + 1:])}
             yield [*script[:at], command | shorter, *script[at + 1:]]

@@ -7,12 +7,12 @@ Exit status: 0 the client was sent it, or no client was given; 1 it wasn't; 2 us
 what is reckoned here isn't what mqroute wrote.
 """
 import argparse
-import json
 import sys
 
 from ..common.exit_status import UsageFault
 from ..common.files import at, keep_apart, refuse_stdin_twice
 from ..common.option_values import whole_number
+from ..common.texts import json_text
 from ..log.options import NAMES, add_log_options, given_options
 from ..script.access_list import AccessList
 from ..script.oracle import RULES
@@ -80,7 +80,7 @@ def as_lines(asked: Question, answers: list[Answer]) -> str:
                 one["log"] = {str(line): script.called(line)
                               for line in lines_of(asked.line, cause)}
             objects.append(one)
-    return "".join(json.dumps(one, ensure_ascii=False) + "\n" for one in objects)
+    return "".join(json_text(one) + "\n" for one in objects)
 
 
 def run(options: argparse.Namespace) -> int:

@@ -1,7 +1,7 @@
 """The words for what was found, of filters, topics and QoS."""
-import json
 from collections.abc import Iterable
 
+from ..common.texts import quoted
 from ..script.topics import plain_filter
 from .history import Ending, Lost, Session, Subscription
 
@@ -44,10 +44,6 @@ def no_subscription(lost: list[Lost]) -> tuple[str, str]:
         return "not subscribed to it", ""
     one, ending = lost[-1]
     return "its subscription to this ended", f" ({one.in_words()}; {ending.in_words()})"
-
-
-def quoted(level: str) -> str:
-    return json.dumps(level, ensure_ascii=False)
 
 
 def mismatch(wanted: str, topic: str) -> tuple[int, str]:
