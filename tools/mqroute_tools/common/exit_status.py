@@ -17,32 +17,60 @@ class UsageFault(Exception):
     """The same of arguments that don't go together, behind the usage."""
 
 
-def discard_output() -> None:
-    """What is still to be written to standard output goes nowhere: Python
-    would try again at its end."""
+def discard(stream: int) -> None:
+    """What is still to be written to standard output or standard error goes nowhere: Python would
+    try again at its end."""
     nowhere = os.open(os.devnull, os.O_WRONLY)
-    os.dup2(nowhere, 1)
-    os.close(nowhere)
+    os.dup2(nowhere, stream)
+    if nowhere != stream:
+        os.close(nowhere)
+
+
+def refuse_closed_output() -> None:
+    if sys.stdout is None:
+        raise Fault("standard output is closed")
+
+
+def failed(fault: Exception) -> int:
+    discard(1)
+    say(in_words(fault))
+    return FAILED
+
+
+def done(work: Callable[[], int]) -> int:
+    """Its status, or that of argparse behind the help or what is wrong with the arguments."""
+    try:
+        return work()
+    except SystemExit as ended:
+        return ended.code if isinstance(ended.code, int) else FAILED
 
 
 def run(work: Callable[[], int]) -> int:
-    """The status that `work` gives; where a file fails, or it raises Fault, 2
-    after one line that says so."""
+    """The status that `work` gives; where it raises anything, 2 after one line that says what."""
     interrupt.handle(interrupt.raise_once)
     try:
-        status = work()
+        refuse_closed_output()
+        status = done(work)
         sys.stdout.flush()
     except KeyboardInterrupt:
-        discard_output()
+        discard(1)
         say("stopped")
         return interrupt.STOPPED
     except BrokenPipeError:  # the reader of standard output has gone, as `head` goes
-        discard_output()
+        discard(1)
         return FAILED
-    except (OSError, Fault) as fault:
-        discard_output()
-        say(in_words(fault))
-        return FAILED
+    except Exception as fault:
+        return failed(fault)
     finally:
         interrupt.handle(interrupt.stop)
+        end_of_notes()
     return status
+
+
+def end_of_notes() -> None:
+    """What standard error couldn't take, as on a full disk, is lost; the status stays."""
+    try:
+        if sys.stderr is not None:
+            sys.stderr.flush()
+    except (OSError, ValueError):
+        discard(2)

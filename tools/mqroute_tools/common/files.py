@@ -7,7 +7,7 @@ import stat
 import sys
 import zlib
 from collections.abc import Iterable, Iterator, Mapping
-from contextlib import contextmanager
+from contextlib import contextmanager, suppress
 from typing import TYPE_CHECKING, BinaryIO, TextIO, cast
 
 from .exit_status import Fault, UsageFault
@@ -18,20 +18,60 @@ if TYPE_CHECKING:
 
 GZIP = b"\x1f\x8b"  # how a file begins that gzip packed
 PIECE = 1 << 16
+# bytes of a line: far over those of a log, and of what mqroute reads (1 MiB) and writes
+LONGEST_LINE = 1 << 24
 
 
-class Unpacked(io.RawIOBase):
-    """What a file packed by gzip holds. Where it is damaged, its name is said."""
+class Lines(io.RawIOBase):
+    """What a file holds. A line that doesn't end, as that of /dev/zero, is refused."""
 
-    def __init__(self, packed: BinaryIO, name: str) -> None:
-        self.packed, self.name = packed, name
-        self.stream = gzip.GzipFile(fileobj=packed)
+    def __init__(self, plain: io.BufferedReader, name: str) -> None:
+        self.plain, self.name = plain, name
+        self.line, self.begun = 1, 0  # the line that has begun, and how many of its bytes were read
 
     def readable(self) -> bool:
         return True
 
+    def seekable(self) -> bool:
+        return self.plain.seekable()
+
+    def seek(self, place: int, whence: int = 0) -> int:
+        self.line, self.begun = 1, 0
+        return self.plain.seek(place, whence)
+
     def readinto(self, buffer: "WriteableBuffer") -> int:
-        room = memoryview(buffer)
+        room = memoryview(buffer).cast("B")
+        size = self.piece(room)
+        self.count(room[:size].tobytes())
+        return size
+
+    def piece(self, room: memoryview) -> int:
+        return self.plain.readinto1(room)
+
+    def count(self, data: bytes) -> None:
+        end = data.rfind(b"\n") + 1
+        self.line += data.count(b"\n")
+        self.begun = len(data) - end + (0 if end else self.begun)
+        if self.begun > LONGEST_LINE:
+            raise Fault(f"{at(self.name, self.line)}: it has more than {LONGEST_LINE:,} bytes, and "
+                        "no end")
+
+    def close(self) -> None:
+        self.plain.close()
+        super().close()
+
+
+class Unpacked(Lines):
+    """What a file packed by gzip holds. Where it is damaged, its name is said."""
+
+    def __init__(self, packed: io.BufferedReader, name: str) -> None:
+        super().__init__(packed, name)
+        self.stream = gzip.GzipFile(fileobj=packed)
+
+    def seekable(self) -> bool:
+        return False
+
+    def piece(self, room: memoryview) -> int:
         try:
             data = self.stream.read1(len(room))
         except (EOFError, gzip.BadGzipFile, zlib.error) as fault:
@@ -39,18 +79,19 @@ class Unpacked(io.RawIOBase):
         room[:len(data)] = data
         return len(data)
 
-    def close(self) -> None:
-        self.packed.close()
-        super().close()
+
+def standard_input() -> io.BufferedReader:
+    if sys.stdin is None:
+        raise Fault("standard input is closed")
+    # the type of sys.stdin says less than it is
+    return cast(io.BufferedReader, sys.stdin.buffer)
 
 
 def open_input(name: str) -> io.BufferedReader:
     """A file, packed by gzip or not; `-` is standard input."""
-    # the type of sys.stdin says less than it is
-    plain = cast(io.BufferedReader, sys.stdin.buffer) if name == STDIN else open(name, "rb")
-    if plain.peek(len(GZIP))[:len(GZIP)] != GZIP:
-        return plain
-    return io.BufferedReader(Unpacked(plain, name), PIECE)
+    plain = standard_input() if name == STDIN else open(name, "rb")
+    is_packed = plain.peek(len(GZIP))[:len(GZIP)] == GZIP
+    return io.BufferedReader((Unpacked if is_packed else Lines)(plain, name), PIECE)
 
 
 def open_text(name: str) -> TextIO:
@@ -120,5 +161,6 @@ def whole(name: str) -> Iterator[BinaryIO]:
             os.chmod(beside, stat.S_IMODE(old.st_mode))
         os.replace(beside, path)
     except BaseException:
-        os.unlink(beside)
+        with suppress(FileNotFoundError):
+            os.unlink(beside)
         raise

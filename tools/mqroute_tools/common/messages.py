@@ -8,6 +8,7 @@ from pathlib import Path
 from .texts import escaped
 
 STDIN = "-"
+PACKAGE = __name__.partition(".")[0]
 SINGULARS = {"copies": "copy", "publishes": "publish"}
 
 
@@ -44,9 +45,20 @@ def counted(number: int, things: str, form: str = "") -> str:
     return f"{number:{form}} {one_of(noun) if number == 1 else noun}{blank}{rest}"
 
 
-def in_words(fault: Exception) -> str:
+def in_words(fault: BaseException) -> str:
     """`x: No such file or directory`, as other programs say it."""
-    if not isinstance(fault, OSError) or not fault.strerror:
+    if isinstance(fault, OSError) and fault.strerror:
+        name = os.fsdecode(fault.filename) if isinstance(fault.filename, (str, bytes)) else ""
+        return f"{name}: {fault.strerror}" if name else fault.strerror
+    if isinstance(fault, MemoryError):
+        return "out of memory"
+    if isinstance(fault, OSError) or type(fault).__module__.startswith(PACKAGE):
         return str(fault)
-    name = os.fsdecode(fault.filename) if isinstance(fault.filename, (str, bytes)) else ""
-    return f"{name}: {fault.strerror}" if name else fault.strerror
+    return own_fault(fault)
+
+
+def own_fault(fault: BaseException) -> str:
+    """What no tool raises for a user: where it was raised, for whoever mends it."""
+    steps = traceback.extract_tb(fault.__traceback__)
+    where = f" at {Path(steps[-1].filename).name}:{steps[-1].lineno}" if steps else ""
+    return f"a fault of this tool{where}: {type(fault).__name__}: {fault}"

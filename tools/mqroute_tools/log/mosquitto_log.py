@@ -70,17 +70,19 @@ def readable(line: str | bytes) -> str:
 # with its fixed words at both ends; where more than one reading is left, the clients that are
 # connected decide.
 
-PUBLISH_HEAD = re.compile(r" \(d([01]), q([0-2]), r([01]), m(\d+), '")
+MOST_DIGITS = 19  # far over those of any number in a line
+NUMBER = rf"\d{{1,{MOST_DIGITS}}}"
+PUBLISH_HEAD = re.compile(rf" \(d([01]), q([0-2]), r([01]), m({NUMBER}), '")
 COPY, RECEIVED, DENIED = "Sending PUBLISH to ", "Received PUBLISH from ", "Denied PUBLISH from "
-TOPIC_AND_SIZE = re.compile(r"(.*)', \.\.\. \((\d+) bytes\)\)")
-PUBLISH_END = re.compile(r"', \.\.\. \((\d+) bytes\)\)$")
-CONNECTED = re.compile(r" \(p(\d+), c([01]), k\d+(?:, u'(.*)')?\)\.$")
-CONNACK = re.compile(r"(.*) \(([01]), (\d+)\)$")
-RELEASE = re.compile(r"(.*) \(Mid: (\d+)\)$")
-ACKNOWLEDGED = re.compile(r"(.*) \(Mid: (\d+), RC:\d+\)$")
-ANSWERED = re.compile(r"(.*) \(m(\d+)(?:, rc\d+)?\)$")
+TOPIC_AND_SIZE = re.compile(rf"(.*)', \.\.\. \(({NUMBER}) bytes\)\)")
+PUBLISH_END = re.compile(rf"', \.\.\. \(({NUMBER}) bytes\)\)$")
+CONNECTED = re.compile(rf" \(p({NUMBER}), c([01]), k{NUMBER}(?:, u'(.*)')?\)\.$")
+CONNACK = re.compile(rf"(.*) \(([01]), ({NUMBER})\)$")
+RELEASE = re.compile(rf"(.*) \(Mid: ({NUMBER})\)$")
+ACKNOWLEDGED = re.compile(rf"(.*) \(Mid: ({NUMBER}), RC:{NUMBER}\)$")
+ANSWERED = re.compile(rf"(.*) \(m({NUMBER})(?:, rc{NUMBER})?\)$")
 FILTER = re.compile(r"(.*) \(QoS ([0-2])\)$")
-WILL = re.compile(r"Will message specified \((\d+) bytes\) \(r([01]), q([0-2])\)\.$")
+WILL = re.compile(rf"Will message specified \(({NUMBER}) bytes\) \(r([01]), q([0-2])\)\.$")
 ENDS = tuple(re.compile(p) for p in (
     r"Client (.*) disconnected\.$",
     r"Client (.*) closed its connection\.$",
@@ -126,7 +128,7 @@ NOTED = (
 )
 LOCAL_SUBSCRIBE = re.compile(r"Bridge (.*) doing local SUBSCRIBE on topic (.*)$")
 BRIDGE_SENDS = re.compile(r"Bridge (.*) sending (?:CONNECT|SUBSCRIBE|UNSUBSCRIBE)(?: \(.*\))?$")
-REUSED = re.compile(r"Reused message ID (\d+) from (.*) detected\. Clearing from storage\.$")
+REUSED = re.compile(rf"Reused message ID ({NUMBER}) from (.*) detected\. Clearing from storage\.$")
 EXPIRED = re.compile(r"Expiring client (.*) due to timeout\.$")
 TAKEN_OVER = re.compile(r"Client (.*) already connected, closing old connection\.$")
 
@@ -164,13 +166,17 @@ def read_publish(text: str, known: Container[str]) -> Publish | None:
     head, _, rest = rest.partition(", '")
     flags, packet = FLAGS.get(head[:FLAGS_END]), head[FLAGS_END:]
     named = TOPICS.get(rest) or topic_and_size(rest)
-    if flags is None or named is None or not packet.isdecimal():
+    if flags is None or named is None or not is_number(packet):
         return read_odd_publish(text, known)
     dup, qos, retain = flags
     found = Publish(client, dup, qos, retain, int(packet), *named)
     if qos == 0:
         remember(OF_QOS_0, text, found)
     return found
+
+
+def is_number(text: str) -> bool:
+    return text.isdecimal() and len(text) <= MOST_DIGITS
 
 
 def topic_and_size(rest: str) -> tuple[str, int] | None:

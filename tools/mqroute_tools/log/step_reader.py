@@ -3,7 +3,7 @@ from collections.abc import Iterable, Iterator
 from typing import BinaryIO
 
 from ..common.exit_status import Fault
-from ..script.output import Block, Command, Key, blocks, key_of, misfit, plain_copy, read_json
+from ..script.output import Answer, Block, Command, Key, blocks, misfit, odd_copy, plain_copy
 from ..script.topics import plain_filter
 from . import mosquitto_log as log
 from .broker_state import publish
@@ -184,7 +184,8 @@ def add(step: Step, command: Command, block: Block, name: str) -> None:
                            size_of(message.payload))
             copies.append(((client, message.topic), copy))
         else:
-            copies.append((key_of(text, name), read_copy(text)))
+            odd = odd_copy(text, name)
+            copies.append(((odd["client"], odd["topic"]), read_copy(odd)))
     check(command, block, [key for key, _ in copies] if copies else (), name)
     for key, copy in copies:
         step.mqroute.copies[key].append(copy)
@@ -192,9 +193,8 @@ def add(step: Step, command: Command, block: Block, name: str) -> None:
         step.mqroute.refused.append((command["client"], command["topic"]))
 
 
-def read_copy(text: str) -> Copy:
+def read_copy(copy: Answer) -> Copy:
     """One with escapes."""
-    copy = read_json(text)
     return Copy(copy["qos"], int(copy["retain"]), "share" in copy, size_of(copy["payload"]))
 
 
@@ -210,4 +210,4 @@ def check(command: Command, block: Block, keys: Iterable[Key], name: str) -> Non
 def size_of(payload: str) -> int:
     """A script has payloads as numbers of bytes."""
     number, _, unit = payload.partition(" ")
-    return int(number) if unit == "bytes" and number.isdecimal() else 0
+    return int(number) if unit == "bytes" and log.is_number(number) else 0

@@ -42,7 +42,7 @@ class Subscribing(Clients):
         if not (text.startswith(client + " ") and text.endswith(" " + name)):
             return False
         word = text[len(client) + 1:-len(name) - 1]
-        if word.isascii() and word.isdigit():
+        if word.isascii() and log.is_number(word):
             self.grant(int(word))
             return True
         return False

@@ -160,13 +160,24 @@ def by_key(copies: list[str], name: str = "the output") -> defaultdict[Key, list
     return found
 
 
-def key_of(text: str, name: str) -> Key:
+FIELDS = {"client": str, "topic": str, "payload": str, "qos": int, "retain": bool}  # of a copy
+
+
+def odd_copy(text: str, name: str) -> Answer:
+    """A copy that isn't plain. Raises Fault where it is none."""
     try:
         copy = read_json(text)
-        return copy["client"], copy["topic"]
-    except (ValueError, KeyError, TypeError, RecursionError) as fault:
-        why = f"begins like a copy and is none: {text[:SHOWN].rstrip()}"
-        raise Fault(f"{name}: no output of mqroute: {why}") from fault
+        if all(isinstance(copy[field], one) for field, one in FIELDS.items()):
+            return dict(copy)
+    except (ValueError, KeyError, TypeError, RecursionError):
+        pass
+    raise Fault(f"{name}: no output of mqroute: begins like a copy and is none: "
+                f"{text[:SHOWN].rstrip()}")
+
+
+def key_of(text: str, name: str) -> Key:
+    copy = odd_copy(text, name)
+    return copy["client"], copy["topic"]
 
 
 def command_of(text: bytes) -> Command | None:
