@@ -1,19 +1,26 @@
-"""Ctrl-C: one line and status 130, whenever it comes; search and replay sum up first."""
+"""Ctrl-C, SIGTERM and SIGHUP: one line and the status that a shell has for it, whenever they come,
+and nothing left behind; search and replay sum up first."""
 import argparse
 import contextlib
 import io
 import os
+import shutil
 import signal
+import socket
 import subprocess
 import sys
 import tempfile
 import time
 import unittest
 import unittest.mock
+from collections.abc import Callable
+from itertools import product
 from pathlib import Path
 
 from fake_broker import Fake, expiry_0_is_none
-from test_replay import PAHO, OnABroker
+from mosquitto import MOSQUITTO, PAHO, free_port, wants_paho
+from test_preview import RECORDED, wants_programs
+from test_replay import OnABroker
 from worked import HERE, PROGRAM, wants_program
 from mqroute import Oracle
 from mqroute_tools.search.finds import Search
@@ -25,13 +32,17 @@ READING = {"log_to_script": ["-"], "check": ["-"], "compare_log": ["-", "out"],
            "who_loses": ["-", "out", "out"], "why": ["-", "1"],
            "preview": ["out", "out", "-"]}
 PATIENCE = 20  # seconds
+STATUSES = {signal.SIGINT: 130, signal.SIGTERM: 143, signal.SIGHUP: 129}
 
 
 def started(tool: str, words: list[str], python: str = sys.executable, **more) -> subprocess.Popen:
     """As from a terminal: in the background Ctrl-C is ignored, and so by what is started there."""
+    def as_at_first() -> None:
+        for number in STATUSES:
+            signal.signal(number, signal.SIG_DFL)
     return subprocess.Popen([python, HERE / f"{tool}.py", *words], encoding="utf-8",
                             stdin=subprocess.PIPE, stdout=subprocess.PIPE, stderr=subprocess.PIPE,
-                            preexec_fn=lambda: signal.signal(signal.SIGINT, signal.SIG_DFL), **more)
+                            preexec_fn=as_at_first, **more)
 
 
 def waits(running: subprocess.Popen) -> bool:
@@ -50,33 +61,136 @@ class Reading(unittest.TestCase):
     def test_while_it_reads(self):
         with tempfile.TemporaryDirectory() as folder:
             Path(folder, "out").write_text('{"line":1,"reason":0}\n')
-            for tool, words in READING.items():
+            for (tool, words), (number, status) in product(READING.items(), STATUSES.items()):
                 running = started(tool, words, cwd=folder)
-                self.interrupt(running)
-                with self.subTest(tool):
+                self.interrupt(running, number)
+                with self.subTest(tool, number=number):
                     said = running.wait(PATIENCE), running.stdout.read(), running.stderr.read()
-                    self.assertEqual(said, (130, "", f"{tool}: stopped\n"))
+                    self.assertEqual(said, (status, "", f"{tool}: stopped\n"))
                 close_pipes(running)
 
-    def interrupt(self, running: subprocess.Popen) -> None:
-        """Ctrl-C, once it has read a line and waits for the next."""
+    def interrupt(self, running: subprocess.Popen, number: signal.Signals) -> None:
+        """The signal, once it has read a line and waits for the next."""
         running.stdin.write('{"do":"connect","client":"a"}\n')
         running.stdin.flush()
         end = time.monotonic() + PATIENCE
         while not waits(running) and time.monotonic() < end:
             time.sleep(0.01)
-        running.send_signal(signal.SIGINT)
+        running.send_signal(number)
 
     def test_while_it_is_loaded(self):
-        """In place of one that every tool imports stands a module that Ctrl-C meets."""
+        """In place of one that every tool imports stands a module that the signal meets."""
         with tempfile.TemporaryDirectory() as folder:
-            Path(folder, "argparse.py").write_text(
-                "import os, signal, time\nos.kill(os.getpid(), signal.SIGINT)\ntime.sleep(60)\n")
-            for tool in (*READING, "replay", "search"):
-                running = started(tool, [], env=os.environ | {"PYTHONPATH": folder})
-                with self.subTest(tool):
-                    said = running.communicate(timeout=PATIENCE)
-                    self.assertEqual((*said, running.returncode), ("", f"{tool}: stopped\n", 130))
+            for number, status in STATUSES.items():
+                Path(folder, "argparse.py").write_text(
+                    f"import os, time\nos.kill(os.getpid(), {number:d})\ntime.sleep(60)\n")
+                for tool in (*READING, "replay", "search"):
+                    running = started(tool, [], env=os.environ | {"PYTHONPATH": folder})
+                    with self.subTest(tool, number=number):
+                        said = running.communicate(timeout=PATIENCE)
+                        self.assertEqual((*said, running.returncode),
+                                         ("", f"{tool}: stopped\n", status))
+
+    def test_a_signal_that_is_ignored(self):
+        """As under nohup: a terminal that is closed ends nothing."""
+        with tempfile.TemporaryDirectory() as folder:
+            running = subprocess.Popen(
+                [sys.executable, HERE / "check.py"], encoding="utf-8", cwd=folder,
+                stdin=subprocess.PIPE, stdout=subprocess.PIPE, stderr=subprocess.PIPE,
+                preexec_fn=lambda: signal.signal(signal.SIGHUP, signal.SIG_IGN))
+            self.interrupt(running, signal.SIGHUP)
+            self.assertEqual((*running.communicate(timeout=PATIENCE), running.returncode),
+                             ("", "", 0))
+
+
+def until(is_so: Callable[[], bool], running: subprocess.Popen) -> None:
+    end = time.monotonic() + PATIENCE
+    while not is_so() and running.poll() is None and time.monotonic() < end:
+        time.sleep(0.005)
+
+
+@wants_programs
+class LeftBehind(unittest.TestCase):
+    """What stands in $TMPDIR and in the folder after each signal in the middle of a long run."""
+
+    def setUp(self) -> None:
+        top = tempfile.TemporaryDirectory()
+        self.addCleanup(top.cleanup)
+        self.folder, self.temporary = Path(top.name, "work"), Path(top.name, "temporary")
+        self.folder.mkdir()
+        self.temporary.mkdir()
+        for name in ("plain.acl", "proposed.acl"):
+            shutil.copy(RECORDED / name, self.folder)
+        (self.folder / "log").write_bytes((RECORDED / "plain.log").read_bytes() * 60)
+
+    def files(self) -> list[str]:
+        return sorted(str(path) for top in (self.folder, self.temporary)
+                      for path in top.rglob("*"))
+
+    def ends(self, tool: str, words: list[str], is_so: Callable[[], bool],
+             given: str | None = None) -> None:
+        before = self.files()
+        for number, status in STATUSES.items():
+            for times in (1, 2):  # as a terminal and a shell may both send it
+                running = started(tool, words, cwd=self.folder,
+                                  env=os.environ | {"TMPDIR": str(self.temporary)})
+                if given is not None:
+                    running.stdin.write(given)
+                running.stdin.close()
+                until(is_so, running)
+                for _ in range(times if number != signal.SIGINT else 1):
+                    running.send_signal(number)
+                with self.subTest(tool, words=words, number=number, times=times):
+                    self.assertEqual(running.wait(PATIENCE), status)
+                    self.assertEqual(running.stderr.read().split("\n")[-2], f"{tool}: stopped")
+                    self.assertEqual(self.files(), before)
+                for pipe in (running.stdout, running.stderr):
+                    pipe.close()
+
+    def has_files(self) -> bool:
+        return any(self.temporary.iterdir())
+
+    def test_preview(self):
+        lists = ["--rules", "mosquitto", "plain.acl", "proposed.acl", "log"]
+        self.ends("preview", lists, self.has_files)
+        self.ends("preview", ["--html", "page", *lists], self.has_files)
+
+    def test_a_list_on_standard_input(self):
+        given = (RECORDED / "plain.acl").read_text("utf-8")
+        self.ends("preview", ["--rules", "mosquitto", "-", "proposed.acl", "log"],
+                  lambda: sum(1 for _ in self.temporary.iterdir()) > 1, given)
+
+    def test_keep(self):
+        kept = self.folder / "kept"
+        kept.mkdir()
+        words = ["--rules", "mosquitto", "--keep", "kept", "plain.acl", "proposed.acl", "log"]
+        self.ends("preview", words, lambda: any(kept.iterdir()))
+
+    def test_log_to_script(self):
+        self.ends("log_to_script", ["--state", "state", "-"], self.has_files,
+                  (self.folder / "log").read_text("utf-8"))
+
+
+@wants_paho
+class Broker(unittest.TestCase):
+    def test_the_broker_of_start(self):
+        if not Path(MOSQUITTO).exists():
+            self.skipTest("there is no mosquitto")
+        port = free_port()
+
+        def listens() -> bool:
+            with socket.socket() as probe:
+                return probe.connect_ex(("127.0.0.1", port)) == 0
+        for number, status in STATUSES.items():
+            running = started("search", ["--start", f"exec {MOSQUITTO} -p {port}", "--port",
+                                         str(port), "--minutes", "5"], PAHO)
+            until(listens, running)
+            time.sleep(0.3)  # so that it searches
+            running.send_signal(number)
+            _, shown = running.communicate(timeout=PATIENCE)
+            with self.subTest(number):
+                self.assertEqual((running.returncode, listens()), (status, False), shown)
+                self.assertTrue(shown.endswith("search: stopped\n"), shown)
 
 
 @wants_program

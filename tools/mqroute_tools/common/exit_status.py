@@ -52,17 +52,17 @@ def run(work: Callable[[], int]) -> int:
         refuse_closed_output()
         status = done(work)
         sys.stdout.flush()
-    except KeyboardInterrupt:
+    except interrupt.Stopped as stopped:
         discard(1)
         say("stopped")
-        return interrupt.STOPPED
+        return stopped.status
     except BrokenPipeError:  # the reader of standard output has gone, as `head` goes
         discard(1)
         return FAILED
     except Exception as fault:
         return failed(fault)
     finally:
-        interrupt.handle(interrupt.stop)
+        interrupt.leave()
         end_of_notes()
     return status
 

@@ -5,6 +5,7 @@ import signal
 from collections.abc import Iterable, Iterator
 from typing import BinaryIO, NoReturn, TypeVar
 
+from . import interrupt
 from .exit_status import Fault
 
 Item = TypeVar("Item")
@@ -42,8 +43,7 @@ def processors() -> int:
 
 def make(items: Iterable[Item], writing: int) -> NoReturn:
     """Writes the items by batches, then what ended them: None, or what was raised."""
-    if signal.getsignal(signal.SIGINT) is not signal.SIG_IGN:
-        signal.signal(signal.SIGINT, signal.SIG_DFL)  # the first process says that it stops
+    interrupt.handle(signal.SIG_DFL)  # the first process says that it stops
     try:
         with open(writing, "wb") as stream:
             send(items, stream)

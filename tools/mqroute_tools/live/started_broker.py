@@ -8,6 +8,7 @@ import tempfile
 import time
 from collections.abc import Iterator
 
+from ..common import interrupt
 from ..common.exit_status import Fault
 from ..common.texts import lines
 from .options import BrokerOptions
@@ -57,10 +58,12 @@ def started(command: str | None, options: BrokerOptions) -> Iterator[None]:
         raise Fault(f"something listens at {options.host} port {options.port} already, where "
                     "--start is to begin a broker")
     with tempfile.TemporaryFile() as said:
-        broker = subprocess.Popen(command, shell=True, start_new_session=True,
-                                  stdin=subprocess.DEVNULL, stdout=said, stderr=said)
-        os.environ[PROCESS] = str(broker.pid)
+        broker = None
         try:
+            with interrupt.held():
+                broker = subprocess.Popen(command, shell=True, start_new_session=True,
+                                          stdin=subprocess.DEVNULL, stdout=said, stderr=said)
+            os.environ[PROCESS] = str(broker.pid)
             why = wait_for(options, broker)
             if why:
                 said.seek(0)
@@ -68,4 +71,6 @@ def started(command: str | None, options: BrokerOptions) -> Iterator[None]:
                 raise Fault("; ".join([f"the command of --start: {why}", *last]))
             yield
         finally:
-            end(broker)
+            if broker is not None:
+                with interrupt.held():
+                    end(broker)

@@ -1,8 +1,8 @@
 """The log files that a tool reads, one after another, some of them twice."""
-import tempfile
 from collections.abc import Iterator, Mapping
 from typing import IO, BinaryIO
 
+from ..common import temporary
 from ..common.exit_status import Fault
 from ..common.files import STDIN, at, open_input, plain_file
 from ..script.file_kinds import HEAD, LOG, wrong
@@ -30,7 +30,7 @@ class Logs:
             self.files = in_order(self.files, form)
 
     def copy(self, name: str) -> str:
-        copy = tempfile.NamedTemporaryFile(prefix="mqroute-")
+        copy = temporary.file()
         self.copies.append(copy)
         with open_input(name) as stream:
             while piece := stream.read(PIECE):

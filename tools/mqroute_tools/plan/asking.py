@@ -5,12 +5,12 @@ The program is $MQROUTE_ACL_PROGRAM, or the one that stands in the same clone or
 `mqroute-acl` on the PATH.
 """
 import json
-import tempfile
 from collections.abc import Iterable
 from dataclasses import dataclass, field
 from pathlib import Path
 from typing import Any
 
+from ..common import temporary
 from ..common.programs import find_program, output_of
 from ..common.texts import lines
 from .filters import Levels, text_of
@@ -66,7 +66,7 @@ def differences(plan: Plan, old: str, new: str,
                 names: tuple[str, str] = (SUBSCRIPTIONS, SUBSCRIPTIONS)) -> list[Difference]:
     """Between lists with these texts, which a fault says by these names."""
     program = find_program("MQROUTE_ACL_PROGRAM", "mqroute-acl")
-    with tempfile.TemporaryDirectory(prefix="mqroute-") as folder:
+    with temporary.folder() as folder:
         paths = [Path(folder, name) for name in ("plan", "old", "new")]
         for path, text in zip(paths, (plan.text, old, new)):
             path.write_bytes(text.encode())

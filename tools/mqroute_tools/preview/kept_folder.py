@@ -1,10 +1,10 @@
 """The folder in which a preview works: a temporary one, of which --keep lets some files stay."""
 import os
-import tempfile
 from collections.abc import Iterable, Iterator
 from contextlib import contextmanager
 from pathlib import Path
 
+from ..common import temporary
 from ..common.exit_status import Fault
 
 SCRIPT, BEFORE, AFTER = "script.jsonl", "before", "after"
@@ -26,9 +26,8 @@ def work_folder(kept: str | None) -> Iterator[Path]:
     """Below `kept`, which is made where it isn't there, so that `keep` has but to rename."""
     if kept is not None:
         os.makedirs(kept, exist_ok=True)
-    with tempfile.TemporaryDirectory(prefix=".mqroute-" if kept else "mqroute-",
-                                     dir=kept) as folder:
-        yield Path(folder)
+    with temporary.folder(kept) as folder:
+        yield folder
 
 
 def keep(folder: Path, kept: str) -> None:

@@ -4,12 +4,10 @@ The program is $MQROUTE_ACL_PROGRAM, or the one that stands in the same clone or
 `mqroute-acl` on the PATH.
 """
 import json
-import os
-import tempfile
-import weakref
 from dataclasses import dataclass
 from typing import Any, NamedTuple
 
+from ..common import temporary
 from ..common.files import STDIN, open_input, plain_file
 from ..common.messages import named
 from ..common.programs import find_program, output_of
@@ -65,10 +63,10 @@ class AccessList:
             with open_input(name) as stream:
                 text = stream.read()
         if not is_file:  # the program reads it each time
-            with tempfile.NamedTemporaryFile(prefix="mqroute-", delete=False) as copy:
-                copy.write(text)
-            self.path = copy.name
-            weakref.finalize(self, os.unlink, copy.name)
+            self.copy = temporary.file()
+            self.copy.write(text)
+            self.copy.flush()
+            self.path = self.copy.name
         self.by_client = CLIENT_MARK in text or rules == "mosquitto"
         self.known: dict[tuple[str | None, str | None, str], dict[str, Verdict]] = {}
 
