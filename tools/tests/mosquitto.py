@@ -40,3 +40,16 @@ def start(case: unittest.TestCase, conf: Path, port: int) -> int:
                 return broker.pid
         time.sleep(0.05)
     raise AssertionError("the broker doesn't start")
+
+
+def refuses(case: unittest.TestCase, conf: Path) -> bool:
+    """Whether the broker ends at once, for want of a configuration that it takes."""
+    if not Path(MOSQUITTO).exists():
+        case.skipTest("there is no mosquitto")
+    broker = subprocess.Popen([MOSQUITTO, "-c", conf], stderr=subprocess.DEVNULL)
+    try:
+        return broker.wait(2) != 0
+    except subprocess.TimeoutExpired:
+        broker.kill()
+        broker.wait()
+        return False

@@ -135,8 +135,8 @@ class Page(Case):
                      "script", "--html", "/nowhere/page", "--keep", "kept")
         self.assertEqual(os.listdir(self.folder / "kept"), [])
         self.write("page", "as it was")
-        self.write("wrong.acl", "topic rw x\n")
-        self.refused("wrong.acl:1: ", "old.acl", "wrong.acl", "script", "--html", "page")
+        self.refused("preview: nowhere.acl: No such file or directory\n", "old.acl", "nowhere.acl",
+                     "script", "--html", "page")
         self.assertEqual((self.folder / "page").read_text(), "as it was")
 
 

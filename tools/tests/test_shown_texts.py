@@ -178,6 +178,11 @@ class OfFiles(Case):
         self.look_at("preview", *rules, "--plan", "plan", *words)
         self.look_at_page("page")
         self.look_at("preview", "--rules", "mosquitto", *words)
+        self.write(f"bad{NAME}", f"topic read a\n{ODD} b\ntopic\tread {ODD}\n")
+        self.assertIn("DON'T RELOAD bad", self.look_at(
+            "preview", "--html", "page", "old.acl", f"bad{NAME}", NAME, stderr_lines=1))
+        self.look_at_page("page")
+        json.loads(self.look_at("preview", "--json", "old.acl", f"bad{NAME}", NAME))
         self.look_at("preview", "old.acl", f"absent{NAME}", NAME, stderr_lines=1)
 
     def test_plan(self):

@@ -9,6 +9,7 @@ from ..common.programs import output_of
 from ..common.texts import lines as lines_of
 from ..script.access_list import AccessList, Line
 from .findings import Client, Deciding, Json, Remark, Right, Subscription
+from .not_taken import KINDS, ListsNotTaken, NotTaken
 
 Asked = tuple[list[Json], list[str]]  # the objects of an answer, and what is noted beside it
 
@@ -39,6 +40,20 @@ class Lists:
         shown = [json.loads(line) for line in lines_of(done.stdout.decode("utf-8"))]
         notes = lines_of(self.named(done.stderr.decode("utf-8", "replace")))
         return shown, notes
+
+    def refuse_not_taken(self) -> None:
+        """Raises ListsNotTaken where mosquitto doesn't take a line, whatever the rules are. Of a
+        list without such a line nothing is looked for that takes long, nor is a fault said that
+        `rights` meets."""
+        lines = []
+        for one in (self.current, self.proposed):
+            words = ["lint", "--json", "--rules=mosquitto", "--steps=1", "--", one.path]
+            done = output_of([one.program, *words], self.named, (0, 1, 2))
+            rows = map(json.loads, lines_of(done.stdout.decode("utf-8")))
+            lines += [NotTaken(Line(one.name, row["line"], row["text"]), row["words"])
+                      for row in rows if row["kind"] in KINDS]
+        if lines:
+            raise ListsNotTaken(lines)
 
     def named(self, text: str) -> str:
         """With the names of the files, where the programs read copies."""

@@ -66,7 +66,8 @@ class Differences:
 
 
 def preview_of(options: argparse.Namespace, folder: Path) -> Preview:
-    """Raises Fault where a file or a program fails. What is noted goes to standard error."""
+    """Raises Fault where a file or a program fails, ListsNotTaken where mosquitto doesn't take a
+    line of a list. What is noted goes to standard error."""
     steps = Steps(STEPS if options.plan is None else BY_PLAN)
     try:
         return gathered(options, folder, steps)
@@ -78,6 +79,7 @@ def gathered(options: argparse.Namespace, folder: Path, steps: Steps) -> Preview
     plan = None if options.plan is None else read_plan(options.plan)
     sources = sources_of(options, folder)
     lists = Lists(options.current, options.proposed, options.rules)
+    lists.refuse_not_taken()
     if plan is not None:
         lists.rename(plan_file(plan, folder), plan.name)
     answers = asked_first(lists, steps)

@@ -1,4 +1,5 @@
 """A preview as one page of HTML, which loads nothing and runs nothing."""
+import argparse
 import time
 from collections.abc import Iterator
 
@@ -21,11 +22,14 @@ LEGEND = ("<p class='legend'><i class='key kept'></i> stays <i class='key lost'>
           "gain</p>\n")
 
 
-def write(name: str, found: Preview, title: str | None) -> None:
+def title_of(options: argparse.Namespace) -> str:
+    return options.title or (TITLE if options.plan is None else PLAN_TITLE)
+
+
+def write(name: str, found: Preview, title: str) -> None:
     """Beside its place, and then renamed. Raises OSError where it can't be written."""
-    head = title or (PLAN_TITLE if found.plan else TITLE)
     with whole(name) as out:
-        out.writelines(part.encode("utf-8") for part in parts(found, head))
+        out.writelines(part.encode("utf-8") for part in parts(found, title))
 
 
 def parts(found: Preview, title: str) -> Iterator[str]:

@@ -4,12 +4,14 @@ With a plan the clients move to new topics too.
 
 It decides nothing itself: mqroute runs the script under both lists, mqroute-acl answers about the
 lists, and what differs is found as by who-loses.
-Exit status: 0 nothing changes; 1 something does; 2 usage, or a file or a program failed.
+Exit status: 0 nothing changes; 1 something does; 2 usage, a list with a line that mosquitto
+doesn't take, or a file or a program failed.
 """
 import argparse
 import os
 import sys
 from pathlib import Path
+from typing import TYPE_CHECKING
 
 from ..common.exit_status import UsageFault
 from ..common.files import keep_apart, refuse_stdin_twice
@@ -19,6 +21,9 @@ from ..common.texts import json_text
 from ..log.options import add_log_options
 from ..script.oracle import RULES
 from . import kept_folder
+
+if TYPE_CHECKING:
+    from .not_taken import NotTaken
 
 MOST = 4_294_967_295
 
@@ -62,16 +67,41 @@ def check(options: argparse.Namespace) -> None:
 
 def run(options: argparse.Namespace) -> int:
     check(options)
-    from . import gathering, html_page, text_report, words  # take time to load
+    from .not_taken import ListsNotTaken  # takes time to load, as does what comes after
+    try:
+        return shown(options)
+    except ListsNotTaken as fault:
+        say_not_taken(options, fault.lines)
+        raise
+
+
+def say_not_taken(options: argparse.Namespace, lines: list["NotTaken"]) -> None:
+    from . import html_page, not_taken
+    if options.html is not None:
+        not_taken.write_page(options.html, lines, html_page.title_of(options))
+    if options.json:
+        write(json_text(not_taken.as_object(options.current, options.proposed, lines), indent=1)
+              + "\n")
+    else:
+        write(not_taken.as_text(lines))
+
+
+def write(text: str) -> None:
+    sys.stdout.buffer.write(text.encode("utf-8", "backslashreplace"))
+    sys.stdout.buffer.flush()
+
+
+def shown(options: argparse.Namespace) -> int:
+    from . import gathering, html_page, text_report, words
     with kept_folder.work_folder(options.keep) as folder:
         found = gathering.preview_of(options, folder)
         if options.html is not None:
-            html_page.write(options.html, found, options.title)
+            html_page.write(options.html, found, html_page.title_of(options))
         if options.keep is not None:
             kept_folder.keep(folder, options.keep)
     if options.json:
         text = json_text(found.json(words.summary(found)), indent=1) + "\n"
     else:
         text = text_report.report(found, standard_output())
-    sys.stdout.buffer.write(text.encode("utf-8", "backslashreplace"))
+    write(text)
     return 1 if found.changes() else 0
