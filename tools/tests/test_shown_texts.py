@@ -1,5 +1,8 @@
 """What is printed of other people's texts: nothing that a terminal acts on, that hides itself, that
 turns text round or begins a second line."""
+import argparse
+import contextlib
+import io
 import json
 import re
 import subprocess
@@ -15,6 +18,11 @@ from test_replay import OnABroker
 from worked import HERE, PROGRAM
 from mqroute_tools.common import texts
 from mqroute_tools.common.test_results import Outcome, Result, junit, tap_lines
+from mqroute_tools.live.broker_diff import Copy, both
+from mqroute_tools.search.difference_kinds import Difference, kind
+from mqroute_tools.search.finds import Find, Search, Unrepeated
+from mqroute_tools.search.known import Known
+from mqroute_tools.search.search_report import Report
 
 ACTS = re.compile("[\0-\x09\x0b-\x1f\x7f-\x9f\u061c\u200b-\u200f\u2028\u2029\u202a-\u202e"
                   "\u2060-\u2064\u2066-\u2069\ufeff]")
@@ -255,6 +263,39 @@ class OfLogs(Case):
         self.look_at("why", "--log", NAME, "--topic", ODD, "--at", ODD)
         for more in ([], ["--json"]):
             self.look_at("preview", "--rules", "mosquitto", *more, "acl", "acl", NAME)
+
+
+class OfSearch(Printed):
+    """What it prints and writes of a find, with names that a known script may have."""
+
+    def setUp(self) -> None:
+        folder = tempfile.TemporaryDirectory()
+        self.addCleanup(folder.cleanup)
+        self.folder = Path(folder.name)
+        script = [{"do": "acl", "text": f"topic {ODD} x\n"}, *script_of(*[ODD] * 4)]
+        texts_of = both(f"{ODD} {ODD}", "nothing", Copy(ODD, ODD, 0, False, ODD, [], None))
+        self.differences = [Difference(6, "publish: more", texts_of)]
+        self.find = Find(kind(script, self.differences[0]), script, [], self.differences)
+
+    def printed(self, **more) -> str:
+        options = {"save": None, "seed": 1, "json": False, "verbose": True, "junit": None}
+        search = Search(None, None)
+        search.passing.append(Unrepeated(1, self.find.script, self.differences[0]))
+        search.known.append(Known(NAME, self.find.script, [], "it has an access list"))
+        with (contextlib.redirect_stdout(io.StringIO()) as out,
+              contextlib.redirect_stderr(io.StringIO()) as shown):
+            report = Report(search, argparse.Namespace(**options | more))
+            report.add(self.find)
+            report.end()
+        self.assert_plain(out.getvalue() + shown.getvalue())
+        return out.getvalue()
+
+    def test_a_find(self):
+        self.assertIn("\\u{202e}", self.printed(save=self.folder, junit=f"{self.folder}/junit"))
+        for line in self.printed(json=True).split("\n")[:-1]:
+            json.loads(line)
+        for name in ("find-1.jsonl", "find-1.diff", "junit"):
+            self.assert_plain((self.folder / name).read_text("utf-8"))
 
 
 @unittest.skipUnless(PAHO, "there is no python3-paho-mqtt")

@@ -9,7 +9,7 @@ from ..common.exit_status import Fault
 from ..common.files import whole
 from ..common.messages import counted, say
 from ..common.test_results import Outcome, Result, write_junit
-from ..common.texts import json_text
+from ..common.texts import escaped, json_text
 from .difference_kinds import Difference
 from .finds import Find, Search, Unrepeated, report
 
@@ -58,7 +58,7 @@ class Report:
         if self.options.json:
             print(json_text(self.find_object(find, number)), flush=True)
         else:
-            uses = f"with {', '.join(sorted(find.kind.uses))}"
+            uses = escaped(f"with {', '.join(sorted(find.kind.uses))}")
             print("\n".join([self.head(find, number), uses, *find.lines(), "", *find.report(), ""]),
                   flush=True)
         if self.options.save:
