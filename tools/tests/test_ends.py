@@ -188,6 +188,12 @@ class Inputs(Case):
             self.assertEqual((done.returncode, done.stderr.count("\n")), (2, 1), done.stderr)
             self.assertNotIn("a fault of this tool", done.stderr)
 
+    def test_closing_lines_that_are_none(self):
+        for line in ('{"code":11,"line":2,"refused":"Not\x7fAuthorized"}',
+                     '{"code":11,"line":2,"refused":["x"]}', '{"line":2,"reason":"\\u001b"}'):
+            self.write("output", BEFORE.split("\n")[0] + f"\n{line}\n")
+            self.says("output:2: no answer of mqroute", "who_loses", "script", "before", "output")
+
 
 @unittest.skipUnless(PAHO, "there is no python3-paho-mqtt")
 class Corpus(Case):

@@ -19,6 +19,7 @@ COPY = '{"client":'  # mqroute prints names in ascending order: a copy alone beg
 # a closing line or a refusal, but that of a `stat`: around the number of its line
 BEGIN = re.compile(r'\{(?:"code":\d+,)?')
 END = re.compile(r'"re(?:ason":(\d+)|fused":"([A-Za-z]+)")\}$')
+NAME = re.compile(r"[A-Za-z]+")  # of a refusal
 TEXT = r'[^"\\\x00-\x1f]*'  # a text of JSON without escapes
 # a copy without escapes: up to the number of its line, with the client
 FRONT = re.compile(
@@ -115,9 +116,11 @@ def closed(text: str, copies: list[str]) -> Block:
         # as Block(..) makes it, by one call less
         return tuple.__new__(Block, (int(number), copies, *meant, text))
     end = read_json(text)
-    accepted = "reason" in end or "nodes" in end
-    return Block(int(end["line"]), copies, end.get("reason"),
-                 None if accepted else str(end["refused"]), text)
+    reason, accepted = end.get("reason"), "reason" in end or "nodes" in end
+    refused = None if accepted else end["refused"]
+    if not isinstance(reason, int | None) or not (refused is None or NAME.fullmatch(refused)):
+        raise ValueError
+    return Block(int(end["line"]), copies, reason, refused, text)
 
 
 def client_of(front: str) -> str | None:
