@@ -103,6 +103,15 @@ def at(name: str, line: int) -> str:
     return f"{named(name)}:{line}"
 
 
+def decoded(data: bytes, name: str) -> str:
+    """The text of a file. Raises Fault, with the line, where it is not UTF-8."""
+    try:
+        return data.decode("utf-8")
+    except UnicodeDecodeError as fault:
+        line = data.count(b"\n", 0, fault.start) + 1
+        raise Fault(f"{at(name, line)}: not UTF-8") from fault
+
+
 # -- not the same file
 
 def plain_file(name: str | int) -> os.stat_result | None:

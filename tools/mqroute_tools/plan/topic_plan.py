@@ -2,7 +2,7 @@
 from collections.abc import Iterable
 
 from ..common.exit_status import Fault
-from ..common.files import at, open_input
+from ..common.files import at, decoded, open_input
 from .filters import HASH, Levels, matches
 from .plan_lines import LineFault, rule_of
 from .rules import Rule
@@ -60,9 +60,4 @@ def read_plan(name: str) -> Plan:
 def read_text(name: str) -> str:
     """A plan or an access list."""
     with open_input(name) as stream:
-        data = stream.read()
-    try:
-        return data.decode("utf-8")
-    except UnicodeDecodeError as fault:
-        line = data.count(b"\n", 0, fault.start) + 1
-        raise Fault(f"{at(name, line)}: not UTF-8") from fault
+        return decoded(stream.read(), name)
