@@ -23,7 +23,7 @@ use Rattle.mq_witness.specs.declared.witness.Witness.{Witness}
 use Rattle.mq_witness.specs.Rows.{lent_rows}
 use Rattle.mq_witness.specs.Ruled.{FindsNoneBy, IsAskedOf, ShowsBy, decides_by}
 use Rattle.mq_witness.specs.declared.clients.Clients.{Clients}
-use Rattle.mq_differences.specs.ByOwner.{is_own}
+use Rattle.mq_differences.specs.ByOwner.{is_for, is_own}
 use Rattle.mq_differences.proofs.FirstLemmas.{All-unmap}
 use Rattle.mq_differences.specs.Classes.{can_be_user}
 use Rattle.mq_differences.specs.Questions.{IsPoint}
@@ -52,6 +52,12 @@ others_contained c row rows =
     part t =
         All-filter (λ r. not (same_row r row)) (Contains rows) (filter t rows)
         (All-filter t (Contains rows) rows (All-contains_itself rows))
+
+others_within : (c : Clients) (row : AclRow) (rows all : List AclRow) → All (Contains all) rows
+    → All (Contains all) (others_of c row rows)
+others_within c row rows all within = λ k d low.
+    All-contains (Contains all) rows (get_or (others_of c row rows) k d) within
+    (others_contained c row rows k d low)
 
 pub row_asked : (rules : Rules) (asked : AskedRows) (c : Clients) (row : AclRow)
     → CanAsk rules asked c row
@@ -90,11 +96,12 @@ lent_others t c row rows others all kept are same is =
     ap (λ (l : List (Bor Row)). lent_rows l) is ∙ lent_filter t all
     ∙ ap (λ (l : List (Bor Row)). filter t (lent_rows l)) same ∙ ap (filter t) are
 
-pub kept_contained : (t : AclRow → Bool) (c : Clients) (row : AclRow) (rows kept : List AclRow)
-    → kept ≡ filter t (others_of c row rows) → All (Contains rows) kept
-kept_contained t c row rows kept is =
-    subst (All (Contains rows)) (sym is)
-    (All-filter t (Contains rows) (others_of c row rows) (others_contained c row rows))
+pub kept_contained : (t : AclRow → Bool) (c : Clients) (row : AclRow) (rows all : List AclRow)
+    → All (Contains all) rows → (kept : List AclRow) → kept ≡ filter t (others_of c row rows)
+    → All (Contains all) kept
+kept_contained t c row rows all within kept is =
+    subst (All (Contains all)) (sym is)
+    (All-filter t (Contains all) (others_of c row rows) (others_within c row rows all within))
 
 -- one of them
 pub other_among : (c : Clients) (row : AclRow) (rows : List AclRow)
@@ -108,13 +115,13 @@ other_among c row rows others items n other are same low is =
     (All-unmap (Contains (lent_rows items)) (λ (r : Bor Row). row_view r.now) items
     (All-contains_itself (lent_rows items)) n other low))
 
-pub other_inside : (c : Clients) (row : AclRow) (rows : List AclRow)
-    (others items : List (Bor Row)) (n : ℕ) (other : Bor Row)
+pub other_inside : (c : Clients) (row : AclRow) (rows all : List AclRow) → All (Contains all) rows
+    → (others items : List (Bor Row)) (n : ℕ) (other : Bor Row)
     → lent_rows others ≡ others_of c row rows → items ≡ others → n < length items
-    → other ≡ get_or items n other → Contains rows (row_view other.now)
-other_inside c row rows others items n other are same low is =
-    All-contains (Contains rows) (others_of c row rows) (row_view other.now)
-    (others_contained c row rows)
+    → other ≡ get_or items n other → Contains all (row_view other.now)
+other_inside c row rows all within others items n other are same low is =
+    All-contains (Contains all) (others_of c row rows) (row_view other.now)
+    (others_within c row rows all within)
     (other_among c row rows others items n other are same low is)
 
 -- ---- who is asked about
@@ -168,16 +175,17 @@ both rules client user name row other cover e =
     }
 
 -- ---- the rows of a rank
-module _ (asked : AskedRows) (clients : Clients) (row : AclRow) (direction : Direction)
-    (client name : List ℕ) (user : Option (List ℕ)) (p : IsPoint asked clients client user name) where
+module _ (asked : AskedRows) (rows : List AclRow) (within : All (Contains asked.rows) rows)
+    (clients : Clients) (row : AclRow) (direction : Direction) (client name : List ℕ)
+    (user : Option (List ℕ)) (p : IsPoint asked clients client user name) where
   abbrev c : AclRow → Bool
   c r = concerns_by asked.rules client user name r
 
   abbrev others : List AclRow
-  others = others_of clients row asked.rows
+  others = others_of clients row rows
 
   abbrev left : List AclRow
-  left = without row asked.rows
+  left = without row rows
 
   abbrev some : ℕ → Bool
   some place = some_at asked.rules direction c place left
@@ -185,19 +193,21 @@ module _ (asked : AskedRows) (clients : Clients) (row : AclRow) (direction : Dir
   user_fits : can_be_user user ≡ true
   user_fits = client_user asked clients user p.is_asked.user_fits
 
-  fits_all : AreFor c clients asked.rows
-  fits_all = for_clients asked clients client name user p.is_asked.user_fits
+  fits_all : AreFor c clients rows
+  fits_all = λ k d low.
+      All-contains (λ r. c r ≡ true → is_for clients r.who ≡ true) asked.rows (get_or rows k d)
+      (for_clients asked clients client name user p.is_asked.user_fits) (within k d low)
 
   -- a row of the cover concerns it where one of all rows does that comes before
   covered_is : (place : ℕ) → list_any c (before asked.rules direction place others)
       ≡ list_any (λ r. c r && is_before asked.rules direction place r) left
   covered_is place =
-      any_tested c (is_before asked.rules direction place) clients row asked.rows fits_all
+      any_tested c (is_before asked.rules direction place) clients row rows fits_all
 
-  at_for : (place : ℕ) → AreFor (λ r. is_at asked.rules direction place r && c r) clients asked.rows
+  at_for : (place : ℕ) → AreFor (λ r. is_at asked.rules direction place r && c r) clients rows
   at_for place = λ k d low e.
-      fits_all k d low (and_parts (is_at asked.rules direction place (get_or asked.rows k d))
-      (c (get_or asked.rows k d)) e).1
+      fits_all k d low (and_parts (is_at asked.rules direction place (get_or rows k d))
+      (c (get_or rows k d)) e).1
 
   none_with : (a b d t : Bool) → a ≡ true → d ≡ false
       → (t ≡ true → ((a && (b && true)) && not d) ≡ false) → (t && b) ≡ false
@@ -207,7 +217,7 @@ module _ (asked : AskedRows) (clients : Clients) (row : AclRow) (direction : Dir
   none_with false b d true e f h = absurd (let q : false ≡ true = e in cc)
 
   -- where one of this rank would decide, one before it does
-  reached : (place : ℕ) → c row ≡ true → NoneAt asked clients row direction place
+  reached : (place : ℕ) → c row ≡ true → NoneAt asked rows clients row direction place
       → some place ≡ true
       → list_any (λ r. c r && is_before asked.rules direction place r) left ≡ true
   reached place here none found =
@@ -223,7 +233,7 @@ module _ (asked : AskedRows) (clients : Clients) (row : AclRow) (direction : Dir
           (list_any c (before asked.rules direction place others))
           (is_at asked.rules direction place (get_or others k d)) here e
           (λ t. none k d low t client name user p)))
-          (any_others (λ r. is_at asked.rules direction place r && c r) clients row asked.rows
+          (any_others (λ r. is_at asked.rules direction place r && c r) clients row rows
           (at_for place) ∙ found))
 
   alone : (b d : Bool) → b ≡ true → ((b && true) && not d) ≡ false → d ≡ true
@@ -233,7 +243,7 @@ module _ (asked : AskedRows) (clients : Clients) (row : AclRow) (direction : Dir
 
   -- some row decides
   decided_there : c row ≡ true → is_deny row.access ≡ false
-      → GrantsNone asked clients row direction
+      → GrantsNone asked rows clients row direction
       → list_any (λ r. c r && is_before asked.rules direction 4 r) left ≡ true
   decided_there here permits none =
       sym (covered_is 4)
@@ -242,28 +252,28 @@ module _ (asked : AskedRows) (clients : Clients) (row : AclRow) (direction : Dir
 
   -- a row that decides before no other one that says the opposite, nor alone
   same_by : (e d : Bool) → rank asked.rules row ≡ rank_of e d → is_deny row.access ≡ d
-      → has_row row asked.rows ≡ true → is_judge direction row ≡ true → c row ≡ true
-      → NoneAt asked clients row direction (rank_of e d + 1)
-      → NoneAt asked clients row direction (rank_of e d + 3)
-      → GrantsNone asked clients row direction
-      → allow_by asked.rules asked.rows client user name direction
+      → has_row row rows ≡ true → is_judge direction row ≡ true → c row ≡ true
+      → NoneAt asked rows clients row direction (rank_of e d + 1)
+      → NoneAt asked rows clients row direction (rank_of e d + 3)
+      → GrantsNone asked rows clients row direction
+      → allow_by asked.rules rows client user name direction
       ≡ allow_by asked.rules left client user name direction
   same_by false true v so h j here next last none =
-      seen_same asked.rules client user name direction row asked.rows 0 user_fits h j here v
+      seen_same asked.rules client user name direction row rows 0 user_fits h j here v
       (same_0 (some 0) (some 1) (some 2) (some 3)
       (λ e. sym (below_1 asked.rules direction c left) ∙ reached 1 here next e)
       (λ e. sym (below_3 asked.rules direction c left) ∙ reached 3 here last e))
   same_by false false v so h j here next last none =
-      seen_same asked.rules client user name direction row asked.rows 1 user_fits h j here v
+      seen_same asked.rules client user name direction row rows 1 user_fits h j here v
       (same_1 (some 0) (some 1) (some 2) (some 3)
       (λ e. sym (below_2 asked.rules direction c left) ∙ reached 2 here next e)
       (sym (below_4 asked.rules direction c left) ∙ decided_there here so none))
   same_by true true v so h j here next last none =
-      seen_same asked.rules client user name direction row asked.rows 2 user_fits h j here v
+      seen_same asked.rules client user name direction row rows 2 user_fits h j here v
       (same_2 (some 0) (some 1) (some 2) (some 3)
       (λ e. sym (below_3 asked.rules direction c left) ∙ reached 3 here next e))
   same_by true false v so h j here next last none =
-      seen_same asked.rules client user name direction row asked.rows 3 user_fits h j here v
+      seen_same asked.rules client user name direction row rows 3 user_fits h j here v
       (same_3 (some 0) (some 1) (some 2) (some 3)
       (sym (below_4 asked.rules direction c left) ∙ decided_there here so none))
 
@@ -272,7 +282,7 @@ module _ (asked : AskedRows) (clients : Clients) (row : AclRow) (direction : Dir
   some_left : (place : ℕ) (other : AclRow) → Contains others other
       → is_at asked.rules direction place other ≡ true → c other ≡ true → some place ≡ true
   some_left place other inside is there =
-      sym (any_others (λ r. is_at asked.rules direction place r && c r) clients row asked.rows
+      sym (any_others (λ r. is_at asked.rules direction place r && c r) clients row rows
       (at_for place))
       ∙ list_any_at (λ r. is_at asked.rules direction place r && c r) others inside.0 other inside.1
       (ap (λ r. is_at asked.rules direction place r && c r) inside.2 ∙ rw (is, there) refl)
@@ -283,37 +293,37 @@ module _ (asked : AskedRows) (clients : Clients) (row : AclRow) (direction : Dir
       (and_parts (is_judge direction other) (rank asked.rules other == place) is).1
 
   abbrev IsOther : Type 0
-  IsOther = allow_by asked.rules asked.rows client user name direction
+  IsOther = allow_by asked.rules rows client user name direction
       ≢ allow_by asked.rules left client user name direction
 
-  next_differs : (e d : Bool) → rank asked.rules row ≡ rank_of e d → has_row row asked.rows ≡ true
+  next_differs : (e d : Bool) → rank asked.rules row ≡ rank_of e d → has_row row rows ≡ true
       → is_judge direction row ≡ true → c row ≡ true → (other : AclRow) → Contains others other
       → is_at asked.rules direction (rank_of e d + 1) other ≡ true → c other ≡ true
       → list_any c (before asked.rules direction (rank_of e d + 1) others) ≡ false → IsOther
   next_differs false true v h j here other inside is there none =
-      seen_other asked.rules client user name direction row asked.rows 0 user_fits h j here v
+      seen_other asked.rules client user name direction row rows 0 user_fits h j here v
       (other_01 (some 0) (some 1) (some 2) (some 3)
       (sym (below_1 asked.rules direction c left) ∙ (sym (covered_is 1) ∙ none))
       (some_left 1 other inside is there))
   next_differs false false v h j here other inside is there none =
-      seen_other asked.rules client user name direction row asked.rows 1 user_fits h j here v
+      seen_other asked.rules client user name direction row rows 1 user_fits h j here v
       (other_12 (some 0) (some 1) (some 2) (some 3)
       (sym (below_2 asked.rules direction c left) ∙ (sym (covered_is 2) ∙ none))
       (some_left 2 other inside is there))
   next_differs true true v h j here other inside is there none =
-      seen_other asked.rules client user name direction row asked.rows 2 user_fits h j here v
+      seen_other asked.rules client user name direction row rows 2 user_fits h j here v
       (other_23 (some 0) (some 1) (some 2) (some 3)
       (sym (below_3 asked.rules direction c left) ∙ (sym (covered_is 3) ∙ none))
       (some_left 3 other inside is there))
   next_differs true false v h j here other inside is there none =
       absurd (none_there 4 other (no_4 asked.rules other) is)
 
-  last_differs : (e d : Bool) → rank asked.rules row ≡ rank_of e d → has_row row asked.rows ≡ true
+  last_differs : (e d : Bool) → rank asked.rules row ≡ rank_of e d → has_row row rows ≡ true
       → is_judge direction row ≡ true → c row ≡ true → (other : AclRow) → Contains others other
       → is_at asked.rules direction (rank_of e d + 3) other ≡ true → c other ≡ true
       → list_any c (before asked.rules direction (rank_of e d + 3) others) ≡ false → IsOther
   last_differs false true v h j here other inside is there none =
-      seen_other asked.rules client user name direction row asked.rows 0 user_fits h j here v
+      seen_other asked.rules client user name direction row rows 0 user_fits h j here v
       (other_03 (some 0) (some 1) (some 2) (some 3)
       (sym (below_3 asked.rules direction c left) ∙ (sym (covered_is 3) ∙ none))
       (some_left 3 other inside is there))
@@ -325,17 +335,17 @@ module _ (asked : AskedRows) (clients : Clients) (row : AclRow) (direction : Dir
       absurd (none_there 6 other (no_6 asked.rules other) is)
 
   alone_differs : (e d : Bool) → rank asked.rules row ≡ rank_of e d → is_deny row.access ≡ d
-      → is_deny row.access ≡ false → has_row row asked.rows ≡ true
+      → is_deny row.access ≡ false → has_row row rows ≡ true
       → is_judge direction row ≡ true → c row ≡ true
       → list_any c (before asked.rules direction 4 others) ≡ false → IsOther
   alone_differs e true v so permits h j here none =
       absurd (both_ways (is_deny row.access) permits so)
   alone_differs false false v so permits h j here none =
-      seen_other asked.rules client user name direction row asked.rows 1 user_fits h j here v
+      seen_other asked.rules client user name direction row rows 1 user_fits h j here v
       (other_1 (some 0) (some 1) (some 2) (some 3)
       (sym (below_4 asked.rules direction c left) ∙ (sym (covered_is 4) ∙ none)))
   alone_differs true false v so permits h j here none =
-      seen_other asked.rules client user name direction row asked.rows 3 user_fits h j here v
+      seen_other asked.rules client user name direction row rows 3 user_fits h j here v
       (other_3 (some 0) (some 1) (some 2) (some 3)
       (sym (below_4 asked.rules direction c left) ∙ (sym (covered_is 4) ∙ none)))
 
@@ -348,12 +358,12 @@ abbrev found_point : (asked : AskedRows) (c : Clients) (must cover : List AclRow
     (f : Finds asked c must cover) → IsPoint asked c f.client f.user f.name
 found_point asked c must cover f = record { is_asked = f.shown.is_asked; valid = f.shown.valid }
 
-found_needed : (asked : AskedRows) (c : Clients) (row : AclRow) (direction : Direction)
-    (must cover : List AclRow) (f : Finds asked c must cover)
-    → allow_by asked.rules asked.rows f.client f.user f.name direction
-    ≢ allow_by asked.rules (without row asked.rows) f.client f.user f.name direction
-    → IsNeeded asked row
-found_needed asked c row direction must cover f differs = record {
+found_needed : (asked : AskedRows) (rows : List AclRow) (c : Clients) (row : AclRow)
+    (direction : Direction) (must cover : List AclRow) (f : Finds asked c must cover)
+    → allow_by asked.rules rows f.client f.user f.name direction
+    ≢ allow_by asked.rules (without row rows) f.client f.user f.name direction
+    → IsNeeded asked rows row
+found_needed asked rows c row direction must cover f differs = record {
   client = f.client;
   user = f.user;
   name = f.name;
@@ -363,88 +373,93 @@ found_needed asked c row direction must cover f differs = record {
   differs = differs;
 }
 
-pub next_needed : (asked : AskedRows) (c : Clients) (row : AclRow) (direction : Direction)
-    → has_row row asked.rows ≡ true → is_judge direction row ≡ true
-    → Precedes asked c row direction (rank asked.rules row + 1) → IsNeeded asked row
-next_needed asked c row direction h j w =
+pub next_needed : (asked : AskedRows) (rows : List AclRow) (within : All (Contains asked.rows) rows)
+    (c : Clients) (row : AclRow) (direction : Direction)
+    → has_row row rows ≡ true → is_judge direction row ≡ true
+    → Precedes asked rows c row direction (rank asked.rules row + 1) → IsNeeded asked rows row
+next_needed asked rows within c row direction h j w =
     let v = ranked_as asked.rules row in
-    at v.0 v.1 (subst (λ n. Precedes asked c row direction (n + 1)) v.1 w)
+    at v.0 v.1 (subst (λ n. Precedes asked rows c row direction (n + 1)) v.1 w)
   where
     at : (e : Bool) → rank asked.rules row ≡ rank_of e (is_deny row.access)
-        → Precedes asked c row direction (rank_of e (is_deny row.access) + 1) → IsNeeded asked row
+        → Precedes asked rows c row direction (rank_of e (is_deny row.access) + 1) → IsNeeded asked rows row
     at e v w =
         let f = w.finds in
         let cover = before asked.rules direction (rank_of e (is_deny row.access) + 1)
-        (others_of c row asked.rows) in
+        (others_of c row rows) in
         let says = both asked.rules f.client f.user f.name row w.other cover f.shown.decided in
-        found_needed asked c row direction (row ∷ (w.other ∷ [])) cover f
-        (next_differs asked c row direction f.client f.name f.user
+        found_needed asked rows c row direction (row ∷ (w.other ∷ [])) cover f
+        (next_differs asked rows within c row direction f.client f.name f.user
         (found_point asked c (row ∷ (w.other ∷ [])) cover f) e (is_deny row.access) v h j says.here
         w.other w.inside w.is_of says.there says.covered)
 
-pub last_needed : (asked : AskedRows) (c : Clients) (row : AclRow) (direction : Direction)
-    → has_row row asked.rows ≡ true → is_judge direction row ≡ true
-    → Precedes asked c row direction (rank asked.rules row + 3) → IsNeeded asked row
-last_needed asked c row direction h j w =
+pub last_needed : (asked : AskedRows) (rows : List AclRow) (within : All (Contains asked.rows) rows)
+    (c : Clients) (row : AclRow) (direction : Direction)
+    → has_row row rows ≡ true → is_judge direction row ≡ true
+    → Precedes asked rows c row direction (rank asked.rules row + 3) → IsNeeded asked rows row
+last_needed asked rows within c row direction h j w =
     let v = ranked_as asked.rules row in
-    at v.0 v.1 (subst (λ n. Precedes asked c row direction (n + 3)) v.1 w)
+    at v.0 v.1 (subst (λ n. Precedes asked rows c row direction (n + 3)) v.1 w)
   where
     at : (e : Bool) → rank asked.rules row ≡ rank_of e (is_deny row.access)
-        → Precedes asked c row direction (rank_of e (is_deny row.access) + 3) → IsNeeded asked row
+        → Precedes asked rows c row direction (rank_of e (is_deny row.access) + 3) → IsNeeded asked rows row
     at e v w =
         let f = w.finds in
         let cover = before asked.rules direction (rank_of e (is_deny row.access) + 3)
-        (others_of c row asked.rows) in
+        (others_of c row rows) in
         let says = both asked.rules f.client f.user f.name row w.other cover f.shown.decided in
-        found_needed asked c row direction (row ∷ (w.other ∷ [])) cover f
-        (last_differs asked c row direction f.client f.name f.user
+        found_needed asked rows c row direction (row ∷ (w.other ∷ [])) cover f
+        (last_differs asked rows within c row direction f.client f.name f.user
         (found_point asked c (row ∷ (w.other ∷ [])) cover f) e (is_deny row.access) v h j says.here
         w.other w.inside w.is_of says.there says.covered)
 
-pub alone_needed : (asked : AskedRows) (c : Clients) (row : AclRow) (direction : Direction)
-    → has_row row asked.rows ≡ true → is_judge direction row ≡ true
-    → GrantsAlone asked c row direction → IsNeeded asked row
-alone_needed asked c row direction h j w =
+pub alone_needed : (asked : AskedRows) (rows : List AclRow) (within : All (Contains asked.rows) rows)
+    (c : Clients) (row : AclRow) (direction : Direction)
+    → has_row row rows ≡ true → is_judge direction row ≡ true
+    → GrantsAlone asked rows c row direction → IsNeeded asked rows row
+alone_needed asked rows within c row direction h j w =
     let f = w.finds in
-    let cover = before asked.rules direction 4 (others_of c row asked.rows) in
+    let cover = before asked.rules direction 4 (others_of c row rows) in
     let v = ranked_as asked.rules row in
     let here : AclRow → Bool = concerns_by asked.rules f.client f.user f.name in
     let says = and_parts (here row && true) (not (list_any here cover)) f.shown.decided in
-    found_needed asked c row direction (row ∷ []) cover f
-    (alone_differs asked c row direction f.client f.name f.user
+    found_needed asked rows c row direction (row ∷ []) cover f
+    (alone_differs asked rows within c row direction f.client f.name f.user
     (found_point asked c (row ∷ []) cover f) v.0 (is_deny row.access) v.1 refl w.grants_it h j
     (and_parts (here row) true says.0).0 (not-true (list_any here cover) says.1))
 
-pub needless_in : (asked : AskedRows) (c : Clients) (row : AclRow) (direction : Direction)
-    → has_row row asked.rows ≡ true → is_judge direction row ≡ true
-    → NoneAt asked c row direction (rank asked.rules row + 1)
-    → NoneAt asked c row direction (rank asked.rules row + 3)
-    → GrantsNone asked c row direction → IsNeedlessIn asked c row direction
-needless_in asked c row direction h j next last none client name user p =
+pub needless_in : (asked : AskedRows) (rows : List AclRow) (within : All (Contains asked.rows) rows)
+    (c : Clients) (row : AclRow) (direction : Direction)
+    → has_row row rows ≡ true → is_judge direction row ≡ true
+    → NoneAt asked rows c row direction (rank asked.rules row + 1)
+    → NoneAt asked rows c row direction (rank asked.rules row + 3)
+    → GrantsNone asked rows c row direction → IsNeedlessIn asked rows c row direction
+needless_in asked rows within c row direction h j next last none client name user p =
     at (concerns_by asked.rules client user name row) refl
   where
     at : (b : Bool) → concerns_by asked.rules client user name row ≡ b
-        → allow_by asked.rules asked.rows client user name direction
-        ≡ allow_by asked.rules (without row asked.rows) client user name direction
+        → allow_by asked.rules rows client user name direction
+        ≡ allow_by asked.rules (without row rows) client user name direction
     at true e =
         let v = ranked_as asked.rules row in
-        same_by asked c row direction client name user p v.0 (is_deny row.access) v.1 refl h j e
-        (subst (λ n. NoneAt asked c row direction (n + 1)) v.1 next)
-        (subst (λ n. NoneAt asked c row direction (n + 3)) v.1 last) none
-    at false e = unconcerned asked.rules client user name direction row asked.rows
+        same_by asked rows within c row direction client name user p v.0 (is_deny row.access) v.1 refl h j e
+        (subst (λ n. NoneAt asked rows c row direction (n + 1)) v.1 next)
+        (subst (λ n. NoneAt asked rows c row direction (n + 3)) v.1 last) none
+    at false e = unconcerned asked.rules client user name direction row rows
         (client_user asked c user p.is_asked.user_fits) h e
 
 -- a row that may not decide about the direction
-pub needless_elsewhere : (asked : AskedRows) (c : Clients) (row : AclRow) (direction : Direction)
-    → has_row row asked.rows ≡ true → is_judge direction row ≡ false
-    → IsNeedlessIn asked c row direction
-needless_elsewhere asked c row direction h j client name user p =
-    undecided asked.rules client user name direction row asked.rows
+pub needless_elsewhere : (asked : AskedRows) (rows : List AclRow) (within : All (Contains asked.rows) rows)
+    (c : Clients) (row : AclRow) (direction : Direction)
+    → has_row row rows ≡ true → is_judge direction row ≡ false
+    → IsNeedlessIn asked rows c row direction
+needless_elsewhere asked rows within c row direction h j client name user p =
+    undecided asked.rules client user name direction row rows
     (client_user asked c user p.is_asked.user_fits) h j
 
 -- in both directions
-pub needless_to : (asked : AskedRows) (c : Clients) (row : AclRow)
-    → IsNeedlessIn asked c row Reading → IsNeedlessIn asked c row Writing
-    → IsNeedlessTo asked c row
-needless_to asked c row r w Reading = r
-needless_to asked c row r w Writing = w
+pub needless_to : (asked : AskedRows) (rows : List AclRow) (c : Clients) (row : AclRow)
+    → IsNeedlessIn asked rows c row Reading → IsNeedlessIn asked rows c row Writing
+    → IsNeedlessTo asked rows c row
+needless_to asked rows c row r w Reading = r
+needless_to asked rows c row r w Writing = w

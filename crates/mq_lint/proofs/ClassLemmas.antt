@@ -22,13 +22,14 @@ use Rattle.mq_witness.specs.Literals.{is_among}
 use Rattle.mq_witness.specs.Rows.{all_rows, is_name_of, is_user_of}
 use Rattle.mq_witness.specs.declared.clients.Clients.{Clients}
 use Rattle.mq_witness.specs.declared.clients.Clients.TheVariants.{Anonymous, Named, Others}
-use Rattle.mq_differences.specs.ByOwner.{is_own}
+use Rattle.mq_differences.specs.ByOwner.{everyones, is_own, own_rows}
 use Rattle.mq_differences.specs.Classes.{can_be_user}
 use Rattle.mq_differences.specs.Marks.{views_of}
 use Rattle.mq_differences.specs.Questions.{IsList}
 use Rattle.mq_differences.specs.declared.by_owner.ByOwner.{ByOwner}
 use Rattle.mq_differences.specs.declared.marks.Marked.{Marked}
 use Rattle.mq_lint.specs.Cases.{AreClasses, IsLint, has_row}
+use Rattle.mq_lint.proofs.CalledLemmas.{all_marked, some_marked}
 use Rattle.mq_lint.proofs.SameLemmas.{has_any}
 
 -- ---- one class
@@ -135,4 +136,10 @@ lint_is rules list lists one asked by_owner users classes is now rows_are groupe
       own_are = λ c. ap views_of (grouped.grouped.own c)
           ∙ views_filter (λ r. is_own c r.who) grouped.all
           ∙ ap (filter (λ r. is_own c r.who)) viewed;
+      everyones_marked = some_marked list grouped.all (everyones by_owner)
+          (λ m. is_everyones (row_view m.row.now).who) grouped.grouped.everyone
+          (all_marked list grouped.all grouped.are grouped.placed);
+      own_marked = λ c. some_marked list grouped.all (own_rows c by_owner)
+          (λ m. is_own c (row_view m.row.now).who) (grouped.grouped.own c)
+          (all_marked list grouped.all grouped.are grouped.placed);
     }

@@ -9,7 +9,6 @@ use Rattle.mq_differences.proofs.FirstLemmas.{All-unmap}
 use Rattle.mq_acl.specs.Views.{line_views}
 use Rattle.mq_acl.specs.declared.row.Row.{Row}
 use Rattle.mq_acl.specs.declared.rules.Rules.{Rules}
-use Rattle.mq_lint.specs.Needless.{IsKind}
 use Rattle.mq_lint.specs.NeedlessFault.{IsStop, IsStopIn, IsNeedlessFault}
 use Rattle.mq_differences.specs.Steps.{enough_steps}
 use Rattle.mq_lint.specs.declared.fault.NeedlessFault.{NeedlessFault}
@@ -17,10 +16,11 @@ use Rattle.mq_lint.specs.declared.fault.NeedlessFault.TheVariants.{Memory, Line,
 use Rattle.mq_lint.specs.declared.remark.RemarkKind.{RemarkKind}
 
 -- what is shown of the first rows
-pub record AreKinds (rules : Rules) (rows : List Row) (n : ℕ) (kinds : List (Option RemarkKind)) : Type 0 where
+pub record UpTo (P : ℕ → Row → Option RemarkKind → Type 0) (rows : List Row) (n : ℕ)
+    (kinds : List (Option RemarkKind)) : Type 0 where
   pub count : length kinds ≡ n
   pub each : (place : ℕ) (row : Row) (kind : Option RemarkKind) → place < n → place < length rows
-      → IsKind rules rows place (get_or rows place row) (get_or kinds place kind)
+      → P place (get_or rows place row) (get_or kinds place kind)
 
 at_end : {X : Type 0} (xs : List X) (x d : X) (n : ℕ) → length xs ≡ n
     → get_or (xs ++ x ∷ []) n d ≡ x
@@ -40,31 +40,30 @@ same_item [] k a b h = absurd (omega arith)
 same_item (x ∷ xs) zero a b h = refl
 same_item (x ∷ xs) (suc k) a b h = same_item xs k a b (omega arith)
 
-pub one_more : (rules : Rules) (rows : List Row) (n : ℕ) (kinds after : List (Option RemarkKind)) (row : Row)
-    (kind : Option RemarkKind) → after ≡ kinds ++ kind ∷ [] → n < length rows
-    → row ≡ get_or rows n row → IsKind rules rows n row kind → AreKinds rules rows n kinds
-    → AreKinds rules rows (n + 1) after
-one_more rules rows n kinds after row kind e low is here k = record {
+pub one_more : (P : ℕ → Row → Option RemarkKind → Type 0) (rows : List Row) (n : ℕ)
+    (kinds after : List (Option RemarkKind)) (row : Row) (kind : Option RemarkKind)
+    → after ≡ kinds ++ kind ∷ [] → n < length rows → row ≡ get_or rows n row → P n row kind
+    → UpTo P rows n kinds → UpTo P rows (n + 1) after
+one_more P rows n kinds after row kind e low is here k = record {
   count = ap length e ∙ length-append kinds (kind ∷ []) ∙ ap (λ m. m + 1) k.count;
   each = λ place r d below in_range. at place r d below in_range (ltb place n) refl;
 }
   where
     at : (place : ℕ) (r : Row) (d : Option RemarkKind) → place < n + 1 → place < length rows
-        → (b : Bool) → ltb place n ≡ b
-        → IsKind rules rows place (get_or rows place r) (get_or after place d)
+        → (b : Bool) → ltb place n ≡ b → P place (get_or rows place r) (get_or after place d)
     at place r d below in_range true q =
         let low = ltb-true place n q in
         let count = k.count in
-        subst (IsKind rules rows place (get_or rows place r))
+        subst (P place (get_or rows place r))
         (sym (ap (λ l. get_or l place d) e ∙ before_end kinds kind d place (omega arith)))
         (k.each place r d low in_range)
     at place r d below in_range false q =
         let above = ltb-false place n q in
         let same : n ≡ place = omega arith in
-        subst (λ p. IsKind rules rows p (get_or rows p r) (get_or after p d)) same
-        (subst (IsKind rules rows n (get_or rows n r))
+        subst (λ p. P p (get_or rows p r) (get_or after p d)) same
+        (subst (P n (get_or rows n r))
         (sym (ap (λ l. get_or l n d) e ∙ at_end kinds kind d n k.count))
-        (subst (λ x. IsKind rules rows n x kind) (is ∙ same_item rows n row r low) here))
+        (subst (λ x. P n x kind) (is ∙ same_item rows n row r low) here))
 
 -- ---- what stops it
 line_inside : (rows : List Row) (n : ℕ) (row : Row) → n < length rows → row ≡ get_or rows n row

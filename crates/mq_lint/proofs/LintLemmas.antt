@@ -21,13 +21,14 @@ use Rattle.mq_acl.specs.declared.fault.AclKind.TheVariants as kinds
 use Rattle.mq_acl.specs.declared.row.Row.{Row}
 use Rattle.mq_acl.specs.declared.rules.Rules.{Rules}
 use Rattle.mq_lint.specs.Blanks.{is_indented_comment, is_tabbed}
+use Rattle.mq_lint.specs.Hidden.{is_obscure}
 use Rattle.mq_lint.specs.Remarks.{has_mark, is_odd_by, is_unmarked, entry_kind, kind_if}
-use Rattle.mq_lint.specs.Remarks.{remark_on}
+use Rattle.mq_lint.specs.Remarks.{odd_remarks, remark_on}
 use Rattle.mq_lint.specs.Remarks.{line_remarks, remarks_from, fault_by, faults_shown}
 use Rattle.mq_lint.specs.declared.remark.Remark.{Remark}
 use Rattle.mq_lint.specs.declared.remark.RemarkKind.{RemarkKind}
 use Rattle.mq_lint.specs.declared.remark.RemarkKind.TheVariants.{Fault, NoMark, IndentedComment}
-use Rattle.mq_lint.specs.declared.remark.RemarkKind.TheVariants.{Tab}
+use Rattle.mq_lint.specs.declared.remark.RemarkKind.TheVariants.{Hidden, Tab}
 
 -- ---- a line alone is a text
 abbrev IsAlone : {X : Type 0} → (X → Bool) → List X → Type 0
@@ -140,9 +141,9 @@ entry_fault number (Ok (User name)) = refl
 entry_fault number (Ok (Topic access topic)) = refl
 entry_fault number (Ok (Pattern access topic)) = no_fault number (not (has_mark topic)) NoMark refl
 
-line_fault : (rules : Rules) (number : ℕ) (line : List ℕ)
-    → faults_shown (line_remarks rules number line) ≡ option_to_list (fault_at number (entry_by rules line))
-line_fault rules number line =
+odd_fault : (rules : Rules) (number : ℕ) (line : List ℕ)
+    → faults_shown (odd_remarks rules number line) ≡ option_to_list (fault_at number (entry_by rules line))
+odd_fault rules number line =
     let entry = remark_on number (entry_kind (entry_by rules line)) in
     let comment = remark_on number (kind_if (is_odd_by rules (is_indented_comment line)) IndentedComment) in
     let tab = remark_on number (kind_if (is_odd_by rules (is_tabbed line)) Tab) in
@@ -155,6 +156,16 @@ line_fault rules number line =
     (no_fault number (is_odd_by rules (is_indented_comment line)) IndentedComment refl)
     ∙ append-nil (faults_shown entry)
     ∙ entry_fault number (entry_by rules line)
+
+line_fault : (rules : Rules) (number : ℕ) (line : List ℕ)
+    → faults_shown (line_remarks rules number line) ≡ option_to_list (fault_at number (entry_by rules line))
+line_fault rules number line =
+    filter_map-append shown (odd_remarks rules number line)
+    (remark_on number (kind_if (is_obscure line) Hidden))
+    ∙ ap (λ l. faults_shown (odd_remarks rules number line) ++ l)
+    (no_fault number (is_obscure line) Hidden refl)
+    ∙ append-nil (faults_shown (odd_remarks rules number line))
+    ∙ odd_fault rules number line
 
 listed : {X : Type 0} (o : Option X) (xs : List X) → option_to_list o ++ xs ≡ cons_option o xs
 listed None xs = refl
@@ -174,15 +185,29 @@ faults_from rules number (line ∷ all) =
 
 -- ---- one line
 -- what is added for a line, one after the other, is all that is odd about it
-pub line_added : (rules : Rules) (number : ℕ) (line : List ℕ) (a b c d : List Remark)
+odd_added : (rules : Rules) (number : ℕ) (line : List ℕ) (a b c d : List Remark)
     (entry comment tab : Option RemarkKind) → b ≡ a ++ remark_on number entry
     → c ≡ b ++ remark_on number comment → d ≡ c ++ remark_on number tab
     → entry ≡ entry_kind (entry_by rules line)
     → comment ≡ kind_if (is_odd_by rules (is_indented_comment line)) IndentedComment
-    → tab ≡ kind_if (is_odd_by rules (is_tabbed line)) Tab → d ≡ a ++ line_remarks rules number line
-line_added rules number line a b c d entry comment tab first second third e f g =
+    → tab ≡ kind_if (is_odd_by rules (is_tabbed line)) Tab → d ≡ a ++ odd_remarks rules number line
+odd_added rules number line a b c d entry comment tab first second third e f g =
     third
     ∙ ap (λ l. l ++ remark_on number tab) (second ∙ ap (λ l. l ++ remark_on number comment) first
     ∙ append_assoc a (remark_on number entry) (remark_on number comment))
     ∙ append_assoc a (remark_on number entry ++ remark_on number comment) (remark_on number tab)
     ∙ (λ i. a ++ ((remark_on number (e i) ++ remark_on number (f i)) ++ remark_on number (g i)))
+
+pub line_added : (rules : Rules) (number : ℕ) (line : List ℕ) (a b c d all : List Remark)
+    (entry comment tab hidden : Option RemarkKind) → b ≡ a ++ remark_on number entry
+    → c ≡ b ++ remark_on number comment → d ≡ c ++ remark_on number tab
+    → all ≡ d ++ remark_on number hidden → entry ≡ entry_kind (entry_by rules line)
+    → comment ≡ kind_if (is_odd_by rules (is_indented_comment line)) IndentedComment
+    → tab ≡ kind_if (is_odd_by rules (is_tabbed line)) Tab
+    → hidden ≡ kind_if (is_obscure line) Hidden → all ≡ a ++ line_remarks rules number line
+line_added rules number line a b c d all entry comment tab hidden first second third fourth e f g h =
+    fourth
+    ∙ ap (λ l. l ++ remark_on number hidden)
+    (odd_added rules number line a b c d entry comment tab first second third e f g)
+    ∙ append_assoc a (odd_remarks rules number line) (remark_on number hidden)
+    ∙ ap (λ kind. a ++ (odd_remarks rules number line ++ remark_on number kind)) h

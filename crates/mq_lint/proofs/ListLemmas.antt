@@ -49,16 +49,16 @@ asked_parts rules all client user e =
     (one.0, two.0, two.1)
 
 -- ---- a row that no client needs
-pub needless_all : (asked : AskedRows) (row : AclRow) (classes : List Clients)
-    → has_row row asked.rows ≡ true → AreClasses asked row.who classes
-    → All (λ c. IsNeedlessTo asked c row) classes
-    → AllowSame asked.rules asked.rows asked.rows (without row asked.rows)
-needless_all asked row classes h are each client name user direction a v =
+pub needless_all : (asked : AskedRows) (rows : List AclRow) (row : AclRow) (classes : List Clients)
+    → has_row row rows ≡ true → AreClasses asked row.who classes
+    → All (λ c. IsNeedlessTo asked rows c row) classes
+    → AllowSame asked.rules asked.rows rows (without row rows)
+needless_all asked rows row classes h are each client name user direction a v =
     at (concerns_by asked.rules client user name row) refl
   where
     at : (b : Bool) → concerns_by asked.rules client user name row ≡ b
-        → allow_by asked.rules asked.rows client user name direction
-        ≡ allow_by asked.rules (without row asked.rows) client user name direction
+        → allow_by asked.rules rows client user name direction
+        ≡ allow_by asked.rules (without row rows) client user name direction
     at true e =
         let fits = asked_parts asked.rules asked.rows client user a in
         let class = class_of asked row classes client user name are fits.1 e in
@@ -71,7 +71,7 @@ needless_all asked row classes h are each client name user direction a v =
           };
           valid = v;
         })
-    at false e = unconcerned asked.rules client user name direction row asked.rows
+    at false e = unconcerned asked.rules client user name direction row rows
         (asked_parts asked.rules asked.rows client user a).1 h e
 
 -- ---- a row that denies nothing

@@ -46,10 +46,10 @@ none_met asked c row test cover others n end h =
     (all_done (NoneMet asked c row test cover) others n end h)
 
 pub met_others : (asked : AskedRows) (c : Clients) (row : AclRow) (test : AclRow → Bool)
-    (cover : List AclRow) (others items : List (Bor Row))
-    → lent_rows others ≡ others_of c row asked.rows → items ≡ others
+    (cover rows : List AclRow) (others items : List (Bor Row))
+    → lent_rows others ≡ others_of c row rows → items ≡ others
     → NoneMeets asked c row test cover (lent_rows items)
-    → NoneMeets asked c row test cover (others_of c row asked.rows)
-met_others asked c row test cover others items are same h =
+    → NoneMeets asked c row test cover (others_of c row rows)
+met_others asked c row test cover rows others items are same h =
     subst (NoneMeets asked c row test cover)
     (ap (λ (l : List (Bor Row)). lent_rows l) same ∙ are) h

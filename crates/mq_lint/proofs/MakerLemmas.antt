@@ -26,7 +26,7 @@ use Rattle.mq_differences.specs.Classes.{can_be_user}
 use Rattle.mq_differences.specs.Ranks.{is_judge, rank, rank_of}
 use Rattle.mq_differences.proofs.PointLemmas.{client_user}
 use Rattle.mq_lint.specs.Needless.{MakesNeedless, MakesNone, as_grant, granted_access}
-use Rattle.mq_lint.specs.Needless.{may_make, same_row}
+use Rattle.mq_lint.specs.Needless.{is_among, may_make}
 use Rattle.mq_lint.specs.Cases.{AreClasses, Finds, FindsNone, covers_access, grants_as_much}
 use Rattle.mq_lint.specs.Cases.{MissesRow, is_at, maker_cover, may_be_for}
 use Rattle.mq_lint.proofs.CaseLemmas.{point_asked}
@@ -378,20 +378,23 @@ misses asked (Some c) row other f apart =
     (misses_own asked.rules c row other apart f.client f.name f.user here))
 
 -- ---- row by row
-pub makes_none_more : (rules : Rules) (rows : List Row) (row : AclRow) (n : ℕ) (other : Row) → n < length rows
-    → other ≡ get_or rows n other
-    → (same_row (row_view other) row ≡ false → MakesNeedless rules (row_views rows) (row_view other) row → ⊥)
-    → MakesNone rules rows row n → MakesNone rules rows row (n + 1)
-makes_none_more rules rows row n other low is here before place d below in_range =
+pub makes_none_more : (rules : Rules) (rows : List Row) (called : List AclRow) (row : AclRow) (n : ℕ)
+    (other : Row) → n < length rows → other ≡ get_or rows n other
+    → (is_among called (row_view other) ≡ false
+    → MakesNeedless rules (row_views rows) (row_view other) row → ⊥)
+    → MakesNone rules rows called row n → MakesNone rules rows called row (n + 1)
+makes_none_more rules rows called row n other low is here before place d below in_range =
     at (ltb place n) refl
   where
-    at : (b : Bool) → ltb place n ≡ b → same_row (row_view (get_or rows place d)) row ≡ false
+    at : (b : Bool) → ltb place n ≡ b
+        → is_among called (row_view (get_or rows place d)) ≡ false
         → MakesNeedless rules (row_views rows) (row_view (get_or rows place d)) row → ⊥
     at true e = before place d (ltb-true place n e) in_range
     at false e =
         let above = ltb-false place n e in
         let same : n ≡ place = omega arith in
-        subst (λ k. same_row (row_view (get_or rows k d)) row ≡ false
+        subst (λ k. is_among called (row_view (get_or rows k d)) ≡ false
         → MakesNeedless rules (row_views rows) (row_view (get_or rows k d)) row → ⊥) same
-        (subst (λ m. same_row (row_view m) row ≡ false → MakesNeedless rules (row_views rows) (row_view m) row → ⊥)
+        (subst (λ m. is_among called (row_view m) ≡ false
+        → MakesNeedless rules (row_views rows) (row_view m) row → ⊥)
         (is ∙ same_item rows n other d low) here)

@@ -1,16 +1,16 @@
 -- Rows that say the same.
 use Rattle.std.proofs.Common.{◌≡◌, ℕ, suc, Bool, true, false, not, ◌&&◌, ◌||◌, cond, List, []}
-use Rattle.std.proofs.Common.{◌∷◌, Contains, refl, ap, sym, ◌∙◌, subst, arith}
+use Rattle.std.proofs.Common.{◌∷◌, ◌++◌, Contains, refl, ap, sym, ◌∙◌, subst, arith}
 use Rattle.std.specs.Str.{bytes_eq}
 use Rattle.std.specs.List.{filter, list_any}
 use Rattle.std.proofs.lemmas.Bool.{and_parts}
-use Rattle.std.proofs.lemmas.List.Folds.{list_any_at}
+use Rattle.std.proofs.lemmas.List.Folds.{list_any-append, list_any_at}
 use Rattle.mq_topic.proofs.ByteLemmas.{text_is, text_itself}
 use Rattle.mq_acl.specs.Lines.{Access, Read, Write, ReadWrite, Deny}
 use Rattle.mq_acl.specs.Rows.{Who, Anonymous, Named, Everyone, AclRow}
 use Rattle.mq_differences.specs.Marks.{same_who}
 use Rattle.mq_differences.proofs.TwinLemmas.{who_is}
-use Rattle.mq_lint.specs.Needless.{same_access, same_row, without}
+use Rattle.mq_lint.specs.Needless.{is_among, same_access, same_row, without, without_all}
 use Rattle.mq_lint.specs.Cases.{has_row}
 
 -- ---- they are equal
@@ -140,3 +140,119 @@ any_kept q n (r ∷ rs) = at (n r) (any_kept q n rs)
         ≡ ((b && q r) || list_any (λ r. n r && q r) rs)
     at true h = ap (λ b. q r || b) h
     at false h = h
+
+pub swapped_filters : (p q : AclRow → Bool) (rows : List AclRow)
+    → filter p (filter q rows) ≡ filter q (filter p rows)
+swapped_filters p q [] = refl
+swapped_filters p q (r ∷ rs) = at (p r) (q r) refl refl (swapped_filters p q rs)
+  where
+    at : (a b : Bool) → p r ≡ a → q r ≡ b → filter p (filter q rs) ≡ filter q (filter p rs)
+        → filter p (cond b (r ∷ filter q rs) (filter q rs))
+        ≡ filter q (cond a (r ∷ filter p rs) (filter p rs))
+    at true true e f h = rw (e, f) (ap (λ l. r ∷ l) h)
+    at true false e f h = rw f h
+    at false true e f h = rw e h
+    at false false e f h = h
+
+-- ---- without some rows
+pub without_none : (rows : List AclRow) → without_all [] rows ≡ rows
+without_none [] = refl
+without_none (r ∷ rs) = ap (λ l. r ∷ l) (without_none rs)
+
+-- one row more
+pub without_more : (some : List AclRow) (row : AclRow) (rows : List AclRow)
+    → without row (without_all some rows) ≡ without_all (some ++ row ∷ []) rows
+without_more some row [] = refl
+without_more some row (r ∷ rs) =
+    outer (is_among some r) (without_more some row rs)
+    ∙ ap (λ b. cond (not b) (r ∷ without_all (some ++ row ∷ []) rs)
+    (without_all (some ++ row ∷ []) rs))
+    (sym (list_any-append (λ one. same_row r one) some (row ∷ [])))
+  where
+    inner : (s : Bool) → without row (without_all some rs) ≡ without_all (some ++ row ∷ []) rs
+        → cond (not s) (r ∷ without row (without_all some rs)) (without row (without_all some rs))
+        ≡ cond (not (s || false)) (r ∷ without_all (some ++ row ∷ []) rs)
+        (without_all (some ++ row ∷ []) rs)
+    inner true h = h
+    inner false h = ap (λ l. r ∷ l) h
+
+    outer : (a : Bool) → without row (without_all some rs) ≡ without_all (some ++ row ∷ []) rs
+        → without row (cond (not a) (r ∷ without_all some rs) (without_all some rs))
+        ≡ cond (not (a || (same_row r row || false))) (r ∷ without_all (some ++ row ∷ []) rs)
+        (without_all (some ++ row ∷ []) rs)
+    outer true h = h
+    outer false h = inner (same_row r row) h
+
+-- a row that is among them isn't left
+pub among_gone : (some : List AclRow) (row : AclRow) (rows : List AclRow)
+    → is_among some row ≡ true → has_row row (without_all some rows) ≡ false
+among_gone some row [] e = refl
+among_gone some row (r ∷ rs) e = at (is_among some r) refl (among_gone some row rs e)
+  where
+    other : (s : Bool) → same_row r row ≡ s → is_among some r ≡ false → s ≡ false
+    other true same f = absurd (let q : false ≡ true = sym f ∙ (ap (is_among some)
+        (row_is r row same) ∙ e) in cc)
+    other false same f = refl
+
+    at : (a : Bool) → is_among some r ≡ a → has_row row (without_all some rs) ≡ false
+        → has_row row (cond (not a) (r ∷ without_all some rs) (without_all some rs)) ≡ false
+    at true f h = h
+    at false f h = ap (λ s. s || has_row row (without_all some rs))
+        (other (same_row r row) refl f) ∙ h
+
+-- nor is it missed
+pub gone_already : (row : AclRow) (rows : List AclRow) → has_row row rows ≡ false
+    → without row rows ≡ rows
+gone_already row [] e = refl
+gone_already row (r ∷ rs) e = at (same_row r row) e (gone_already row rs)
+  where
+    at : (s : Bool) → (s || has_row row rs) ≡ false
+        → (has_row row rs ≡ false → without row rs ≡ rs)
+        → cond (not s) (r ∷ without row rs) (without row rs) ≡ r ∷ rs
+    at true e h = absurd (let q : true ≡ false = e in cc)
+    at false e h = ap (λ l. r ∷ l) (h e)
+
+-- one that isn't among them is left
+pub has_left : (some : List AclRow) (row : AclRow) (rows : List AclRow)
+    → is_among some row ≡ false → has_row row rows ≡ true
+    → has_row row (without_all some rows) ≡ true
+has_left some row [] f h = absurd (let q : false ≡ true = h in cc)
+has_left some row (r ∷ rs) f h = at (same_row r row) refl (is_among some r) refl h
+    (has_left some row rs f)
+  where
+    second : (a b : Bool) → b ≡ true → (a || b) ≡ true
+    second true b e = refl
+    second false b e = e
+
+    at : (s : Bool) → same_row r row ≡ s → (a : Bool) → is_among some r ≡ a
+        → (s || has_row row rs) ≡ true
+        → (has_row row rs ≡ true → has_row row (without_all some rs) ≡ true)
+        → has_row row (cond (not a) (r ∷ without_all some rs) (without_all some rs)) ≡ true
+    at true same true there h g = absurd (let q : false ≡ true =
+        sym f ∙ (ap (is_among some) (sym (row_is r row same)) ∙ there) in cc)
+    at true same false there h g =
+        ap (λ s. s || has_row row (without_all some rs)) same
+    at false same true there h g = g h
+    at false same false there h g =
+        second (same_row r row) (has_row row (without_all some rs)) (g h)
+
+-- one that is left is one of them
+pub has_kept : (some : List AclRow) (row : AclRow) (rows : List AclRow)
+    → has_row row (without_all some rows) ≡ true → has_row row rows ≡ true
+has_kept some row [] h = h
+has_kept some row (r ∷ rs) h = at (is_among some r) h (has_kept some row rs)
+  where
+    second : (a b : Bool) → b ≡ true → (a || b) ≡ true
+    second true b e = refl
+    second false b e = e
+
+    either : (a b c : Bool) → (a || b) ≡ true → (b ≡ true → c ≡ true) → (a || c) ≡ true
+    either true b c h g = refl
+    either false b c h g = g h
+
+    at : (a : Bool)
+        → has_row row (cond (not a) (r ∷ without_all some rs) (without_all some rs)) ≡ true
+        → (has_row row (without_all some rs) ≡ true → has_row row rs ≡ true)
+        → (same_row r row || has_row row rs) ≡ true
+    at true h g = second (same_row r row) (has_row row rs) (g h)
+    at false h g = either (same_row r row) (has_row row (without_all some rs)) (has_row row rs) h g

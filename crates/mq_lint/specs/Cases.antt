@@ -1,6 +1,7 @@
 -- A row of a list, for clients of one class.
 use Rattle.std.specs.Prelude.{◌≡◌, ℕ, Bool, true, false, List, [], ◌∷◌, ◌++◌, ◌&&◌, ◌||◌, ◌==◌, not}
-use Rattle.std.specs.Prelude.{Option, Some, None, All, Contains, if◌then◌else◌, nat_lt}
+use Rattle.std.specs.Prelude.{◌<◌, Option, Some, None, All, Contains, if◌then◌else◌, nat_lt}
+use Rattle.std.specs.Prelude.{length, map, slice_index_or}
 use Rattle.std.specs.List.{filter, list_all, list_any}
 use Rattle.mq_acl.specs.AccessLists.{allow_by}
 use Rattle.mq_acl.specs.declared.rules.Rules.{Rules}
@@ -9,7 +10,7 @@ use Rattle.mq_acl.specs.Access.{applies, concerns, grants, is_deny}
 use Rattle.mq_acl.specs.Lines.{Access}
 use Rattle.mq_acl.specs.Rows.{AclRow, Everyone, Who}
 use Rattle.mq_acl.specs.RowsByOwner.{is_everyones}
-use Rattle.mq_acl.specs.Views.{row_views}
+use Rattle.mq_acl.specs.Views.{row_view, row_views}
 use Rattle.mq_acl.specs.declared.access.Direction.{Direction}
 use Rattle.mq_acl.specs.declared.access.Direction.TheVariants.{Reading, Writing}
 use Rattle.mq_acl.specs.declared.row.Row.{Row}
@@ -24,7 +25,8 @@ use Rattle.mq_differences.specs.Marks.{views_of}
 use Rattle.mq_differences.specs.Questions.{IsPoint}
 use Rattle.mq_differences.specs.Ranks.{is_judge, rank}
 use Rattle.mq_differences.specs.declared.by_owner.ByOwner.{ByOwner}
-use Rattle.mq_lint.specs.Needless.{Differ, Meet, granted_access, same_row, without}
+use Rattle.mq_differences.specs.declared.marks.Marked.{Marked}
+use Rattle.mq_lint.specs.Needless.{Differ, Meet, granted_access, is_among, same_row, without}
 
 -- ---- a question
 -- a row of the list says the same
@@ -52,6 +54,19 @@ FindsNone asked clients must cover = (client name : List ℕ) (user : Option (Li
     → IsPoint asked clients client user name
     → decides_by asked.rules client user name must cover ≡ false
 
+-- ---- the rows that are left
+-- a row is marked as out if it is among these
+abbrev pub AreOut : List Row → (called : List AclRow) → List Bool → Type 0
+AreOut rows called out = out ≡ map (λ r. is_among called (row_view r)) rows
+
+pub record IsMarked (rows : List Row) (m : Marked) : Type 0 where
+  pub in_range : m.place < length rows
+  pub is : (d : Row) → m.row.now ≡ slice_index_or rows m.place d
+
+-- each is the row at its place
+abbrev pub AreMarked : List Row → List Marked → Type 0
+AreMarked rows all = All (IsMarked rows) all
+
 -- ---- the other rows
 -- the rows for all clients and those for these alone, but for those that say the same as this one
 abbrev pub others_of : Clients → AclRow → List AclRow → List AclRow
@@ -69,21 +84,22 @@ is_at rules direction place row = is_judge direction row && (rank rules row == p
 abbrev pub before : Rules → Direction → ℕ → List AclRow → List AclRow
 before rules direction place rows = filter (is_before rules direction place) rows
 
--- ---- what the list allows without the row
+-- ---- what the list with these rows allows without the row
 -- some client may do something else
-abbrev pub IsNeeded : AskedRows → AclRow → Type 0
-IsNeeded asked row = Differ asked.rules asked.rows asked.rows (without row asked.rows)
+abbrev pub IsNeeded : AskedRows → List AclRow → AclRow → Type 0
+IsNeeded asked rows row = Differ asked.rules asked.rows rows (without row rows)
 
 -- these clients may do the same, in this direction
-abbrev pub IsNeedlessIn : AskedRows → Clients → AclRow → Direction → Type 0
-IsNeedlessIn asked clients row direction = (client name : List ℕ) (user : Option (List ℕ))
+abbrev pub IsNeedlessIn : AskedRows → List AclRow → Clients → AclRow → Direction → Type 0
+IsNeedlessIn asked rows clients row direction = (client name : List ℕ) (user : Option (List ℕ))
     → IsPoint asked clients client user name
-    → allow_by asked.rules asked.rows client user name direction
-    ≡ allow_by asked.rules (without row asked.rows) client user name direction
+    → allow_by asked.rules rows client user name direction
+    ≡ allow_by asked.rules (without row rows) client user name direction
 
 -- these clients may do the same
-abbrev pub IsNeedlessTo : AskedRows → Clients → AclRow → Type 0
-IsNeedlessTo asked clients row = (direction : Direction) → IsNeedlessIn asked clients row direction
+abbrev pub IsNeedlessTo : AskedRows → List AclRow → Clients → AclRow → Type 0
+IsNeedlessTo asked rows clients row =
+    (direction : Direction) → IsNeedlessIn asked rows clients row direction
 
 -- none of these that passes the test concerns a topic that the row does and no row of the cover, for
 -- a client that is asked about
@@ -93,32 +109,32 @@ NoneMeets asked clients row test cover others =
     All (λ r. test r ≡ true → FindsNone asked clients (row ∷ (r ∷ [])) cover) others
 
 -- where rows of this rank would decide, the row doesn't before they do
-abbrev pub NoneAt : AskedRows → Clients → AclRow → Direction → ℕ → Type 0
-NoneAt asked clients row direction place = NoneMeets asked clients row
+abbrev pub NoneAt : AskedRows → List AclRow → Clients → AclRow → Direction → ℕ → Type 0
+NoneAt asked rows clients row direction place = NoneMeets asked clients row
     (is_at asked.rules direction place)
-    (before asked.rules direction place (others_of clients row asked.rows))
-    (others_of clients row asked.rows)
+    (before asked.rules direction place (others_of clients row rows))
+    (others_of clients row rows)
 
 -- it does: before one of that rank, and where no row decides before that one
-pub record Precedes (asked : AskedRows) (clients : Clients) (row : AclRow) (direction : Direction)
-    (place : ℕ) : Type 0 where
+pub record Precedes (asked : AskedRows) (rows : List AclRow) (clients : Clients) (row : AclRow)
+    (direction : Direction) (place : ℕ) : Type 0 where
   pub other : AclRow
-  pub inside : Contains (others_of clients row asked.rows) other
+  pub inside : Contains (others_of clients row rows) other
   pub is_of : is_at asked.rules direction place other ≡ true
   pub finds : Finds asked clients (row ∷ (other ∷ []))
-      (before asked.rules direction place (others_of clients row asked.rows))
+      (before asked.rules direction place (others_of clients row rows))
 
 -- the row grants, and concerns a topic about which no other decides
-pub record GrantsAlone (asked : AskedRows) (clients : Clients) (row : AclRow)
+pub record GrantsAlone (asked : AskedRows) (rows : List AclRow) (clients : Clients) (row : AclRow)
     (direction : Direction) : Type 0 where
   pub grants_it : is_deny row.access ≡ false
   pub finds : Finds asked clients (row ∷ [])
-      (before asked.rules direction 4 (others_of clients row asked.rows))
+      (before asked.rules direction 4 (others_of clients row rows))
 
 -- if it grants, another decides wherever it does
-abbrev pub GrantsNone : AskedRows → Clients → AclRow → Direction → Type 0
-GrantsNone asked clients row direction = is_deny row.access ≡ false → FindsNone asked clients
-    (row ∷ []) (before asked.rules direction 4 (others_of clients row asked.rows))
+abbrev pub GrantsNone : AskedRows → List AclRow → Clients → AclRow → Direction → Type 0
+GrantsNone asked rows clients row direction = is_deny row.access ≡ false → FindsNone asked clients
+    (row ∷ []) (before asked.rules direction 4 (others_of clients row rows))
 
 -- it grants
 abbrev pub permits : AclRow → Bool
@@ -147,6 +163,8 @@ pub record IsLint (rules : Rules) (rows : List Row) (asked : AskedRows) (by_owne
   pub everyones_are : views_of (everyones by_owner) ≡ filter (λ r. is_everyones r.who) asked.rows
   pub own_are : (clients : Clients) → views_of (own_rows clients by_owner)
       ≡ filter (λ r. is_own clients r.who) asked.rows
+  pub everyones_marked : AreMarked rows (everyones by_owner)
+  pub own_marked : (clients : Clients) → AreMarked rows (own_rows clients by_owner)
 
 -- ---- a row that makes another needless
 -- taken for rows that grant, the other grants each direction that the row does

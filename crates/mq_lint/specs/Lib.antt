@@ -1,5 +1,9 @@
 pub mod Blanks
 pub mod Cases
+pub mod Hidden
+pub mod Ids
+pub mod Kinds
+pub mod Left
 pub mod Needless
 pub mod NeedlessFault
 pub mod Remarks

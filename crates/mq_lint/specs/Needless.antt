@@ -1,8 +1,8 @@
 -- Lines without which a list allows the same.
-use Rattle.std.specs.Prelude.{◌≡◌, ◌≢◌, ◌<◌, ℕ, Bool, true, false, List, [], ◌∷◌, ◌&&◌, ◌||◌, not}
+use Rattle.std.specs.Prelude.{◌≡◌, ◌≢◌, ◌⊎◌, ◌<◌, ◌+◌, ◌++◌, drop, ℕ, Bool, true, false, List, [], ◌∷◌, ◌&&◌, ◌||◌, not}
 use Rattle.std.specs.Prelude.{length, slice_index_or, take, find, Option, Some, None, nat_lt}
 use Rattle.std.specs.Prelude.{if◌then◌else◌}
-use Rattle.std.specs.List.{filter, filter_map, zip}
+use Rattle.std.specs.List.{filter, filter_map, list_any, zip}
 use Rattle.std.specs.Option.{option_map}
 use Rattle.std.specs.Str.{bytes_eq}
 use Rattle.mq_topic.specs.Texts.{is_name}
@@ -19,6 +19,8 @@ use Rattle.mq_witness.specs.Ruled.{are_asked_of}
 use Rattle.mq_differences.specs.Classes.{can_be_user}
 use Rattle.mq_differences.specs.Marks.{same_who}
 use Rattle.mq_differences.specs.Ranks.{rank}
+use Rattle.mq_lint.specs.Ids.{AreIds, ids_of, is_unknown}
+use Rattle.mq_lint.specs.declared.ids.Ids.{Ids}
 use Rattle.mq_lint.specs.declared.remark.Remark.{Remark}
 use Rattle.mq_lint.specs.declared.remark.RemarkKind.{RemarkKind}
 use Rattle.mq_lint.specs.declared.remark.RemarkKind.TheVariants.{Repeats, DeniesNothing}
@@ -70,6 +72,14 @@ repeated rows place row =
 abbrev pub without : AclRow → List AclRow → List AclRow
 without row rows = filter (λ other. not (same_row other row)) rows
 
+-- it is the same as one of these
+abbrev pub is_among : List AclRow → AclRow → Bool
+is_among some row = list_any (λ one. same_row row one) some
+
+-- the rows but for these, and those that repeat them
+abbrev pub without_all : List AclRow → List AclRow → List AclRow
+without_all some rows = filter (λ row. not (is_among some row)) rows
+
 -- ---- rows that meet
 -- of a client that is asked about, both concern a topic
 pub record Meet (rules : Rules) (all : List AclRow) (one other : AclRow) : Type 0 where
@@ -87,6 +97,12 @@ pub record DeniesNone (rules : Rules) (rows : List Row) (row : AclRow) : Type 0 
   pub meets_none : (place : ℕ) (d : Row) → place < length rows
       → is_deny (row_view (slice_index_or rows place d)).access ≡ false
       → Meet rules (row_views rows) row (row_view (slice_index_or rows place d)) → ⊥
+
+-- it is shown to deny nothing to clients of these ids, of whom enough is known
+pub record IsIdle (rules : Rules) (rows : List Row) (row : AclRow) (ids : Ids) : Type 0 where
+  pub whom : AreIds rules (row_views rows) ids
+  pub known : is_unknown ids row ≡ false
+  pub none : DeniesNone rules rows row
 
 -- ---- what makes a row needless
 abbrev pub granted_access : Access → Access
@@ -112,55 +128,90 @@ pub record MakesNeedless (rules : Rules) (all : List AclRow) (other row : AclRow
   pub kind : may_make rules other row ≡ true
   pub same : AllowSame rules all (as_grant row ∷ (as_grant other ∷ [])) (as_grant other ∷ [])
 
--- another row, which doesn't repeat it, makes it needless
-pub record IsMaker (rules : Rules) (rows : List Row) (row : AclRow) (place line : ℕ) : Type 0 where
+-- a row that isn't called needless, nor repeats one that is, makes it needless
+pub record IsMaker (rules : Rules) (rows : List Row) (called : List AclRow) (row : AclRow)
+    (place line : ℕ) : Type 0 where
   pub other : Row
   pub in_range : place < length rows
   pub is : other ≡ slice_index_or rows place other
   pub line_is : line ≡ other.line
-  pub elsewhere : same_row (row_view other) row ≡ false
+  pub stays : is_among called (row_view other) ≡ false
   pub makes : MakesNeedless rules (row_views rows) (row_view other) row
 
--- none of the rows before this place does
-abbrev pub MakesNone : Rules → List Row → AclRow → ℕ → Type 0
-MakesNone rules rows row n = (place : ℕ) (d : Row) → place < n → place < length rows
-    → same_row (row_view (slice_index_or rows place d)) row ≡ false
+-- none of the rows before this place that aren't called needless does
+abbrev pub MakesNone : Rules → List Row → List AclRow → AclRow → ℕ → Type 0
+MakesNone rules rows called row n = (place : ℕ) (d : Row) → place < n → place < length rows
+    → is_among called (row_view (slice_index_or rows place d)) ≡ false
     → MakesNeedless rules (row_views rows) (row_view (slice_index_or rows place d)) row → ⊥
 
 -- the first row that does
-pub record IsFirstMaker (rules : Rules) (rows : List Row) (row : AclRow) (line : ℕ) : Type 0 where
+pub record IsFirstMaker (rules : Rules) (rows : List Row) (called : List AclRow) (row : AclRow)
+    (line : ℕ) : Type 0 where
   pub place : ℕ
-  pub maker : IsMaker rules rows row place line
-  pub first : MakesNone rules rows row place
+  pub maker : IsMaker rules rows called row place line
+  pub first : MakesNone rules rows called row place
 
-abbrev pub IsBy : Rules → List Row → AclRow → Option ℕ → Type 0
-IsBy rules rows row (Some line) = IsFirstMaker rules rows row line
-IsBy rules rows row None = MakesNone rules rows row (length rows)
+abbrev pub IsBy : Rules → List Row → List AclRow → AclRow → Option ℕ → Type 0
+IsBy rules rows called row (Some line) = IsFirstMaker rules rows called row line
+IsBy rules rows called row None = MakesNone rules rows called row (length rows)
+
+-- ---- which rows are called needless
+abbrev pub is_needless : Option RemarkKind → Bool
+is_needless (Some (Needless ids by)) = true
+is_needless kind = false
+
+-- of these rows those that are called so, the last first
+abbrev pub called_of : List Row → List (Option RemarkKind) → List AclRow
+called_of (row ∷ rows) (kind ∷ kinds) =
+    if is_needless kind then called_of rows kinds ++ row_view row ∷ [] else called_of rows kinds
+called_of rows kinds = []
+
+-- those of them that stand behind this place
+abbrev pub called_behind : ℕ → List Row → List (Option RemarkKind) → List AclRow
+called_behind place rows kinds = called_of (drop (place + 1) rows) (drop (place + 1) kinds)
 
 -- ---- what is shown
--- the list without the row, and those that repeat it, allows the same; this makes it so
-pub record IsNeedless (rules : Rules) (rows : List Row) (row : AclRow) (by : Option ℕ)
-    : Type 0 where
+-- to clients of these ids, of whom enough is known, the list allows the same without the row and those that repeat it,
+-- and so it does without it and those that are called needless behind it; this makes it so
+pub record IsNeedless (rules : Rules) (rows : List Row) (called behind : List AclRow) (row : AclRow)
+    (ids : Ids) (by : Option ℕ) : Type 0 where
+  pub whom : AreIds rules (row_views rows) ids
+  pub known : is_unknown ids row ≡ false
   pub denies_some : DeniesNone rules rows row → ⊥
-  pub same : AllowSame rules (row_views rows) (row_views rows) (without row (row_views rows))
-  pub makes : IsBy rules rows row by
+  pub alone : AllowSame rules (row_views rows) (row_views rows) (without row (row_views rows))
+  pub beside : AllowSame rules (row_views rows) (row_views rows)
+      (without_all (behind ++ row ∷ []) (row_views rows))
+  pub makes : IsBy rules rows called row by
 
--- this is shown of the row at the place, where it doesn't repeat another
-abbrev pub IsKindAlone : Rules → List Row → AclRow → Option RemarkKind → Type 0
-IsKindAlone rules rows row (Some DeniesNothing) = DeniesNone rules rows row
-IsKindAlone rules rows row (Some (Needless by)) = IsNeedless rules rows row by
-IsKindAlone rules rows row (Some kind) = ⊥
-IsKindAlone rules rows row None =
+-- without the row, or without it and those that are called needless behind it, some client may do what
+-- it may not by the list, or the other way round
+abbrev pub IsKept : Rules → List Row → (behind : List AclRow) → AclRow → Type 0
+IsKept rules rows behind row =
     Differ rules (row_views rows) (row_views rows) (without row (row_views rows))
+    ⊎ Differ rules (row_views rows) (row_views rows)
+    (without_all (behind ++ row ∷ []) (row_views rows))
 
-abbrev pub IsKindUnless : Rules → List Row → AclRow → Option ℕ → Option RemarkKind → Type 0
-IsKindUnless rules rows row (Some line) kind = kind ≡ Some (Repeats line)
-IsKindUnless rules rows row None kind = IsKindAlone rules rows row kind
+-- this is shown of a row that doesn't repeat another
+abbrev pub IsKindAlone : Rules → List Row → (called behind : List AclRow) → AclRow
+    → Option RemarkKind → Type 0
+IsKindAlone rules rows called behind row (Some (DeniesNothing ids)) = IsIdle rules rows row ids
+IsKindAlone rules rows called behind row (Some (Needless ids by)) =
+    IsNeedless rules rows called behind row ids by
+IsKindAlone rules rows called behind row (Some kind) = ⊥
+IsKindAlone rules rows called behind row None =
+    is_unknown (ids_of rules (row_views rows)) row ≡ false → IsKept rules rows behind row
 
--- this is shown of the row at the place
-abbrev pub IsKind : Rules → List Row → ℕ → Row → Option RemarkKind → Type 0
-IsKind rules rows place row kind =
-    IsKindUnless rules rows (row_view row) (repeated rows place (row_view row)) kind
+abbrev pub IsKindUnless : Rules → List Row → (called behind : List AclRow) → AclRow → Option ℕ
+    → Option RemarkKind → Type 0
+IsKindUnless rules rows called behind row (Some line) kind = kind ≡ Some (Repeats line)
+IsKindUnless rules rows called behind row None kind =
+    IsKindAlone rules rows called behind row kind
+
+-- this is shown of the row at the place, where these are called needless, and these behind it
+abbrev pub IsKind : Rules → List Row → (called behind : List AclRow) → ℕ → Row → Option RemarkKind
+    → Type 0
+IsKind rules rows called behind place row kind = IsKindUnless rules rows called behind (row_view row)
+    (repeated rows place (row_view row)) kind
 
 -- the remarks on the rows of which something is shown, in their order
 abbrev pub remarks_of_kinds : List Row → List (Option RemarkKind) → List Remark
@@ -168,10 +219,14 @@ remarks_of_kinds rows kinds =
     filter_map (λ shown. option_map (λ kind. record { line = shown.0.line; kind = kind }) shown.1)
     (zip rows kinds)
 
--- of each row what is shown is so, and each of which nothing is shown is needed
+-- of each row what is shown is so, and each of which nothing is shown is needed; without all that are
+-- called needless, and those that repeat them, the list allows the same
 pub record AreNeedless (rules : Rules) (rows : List Row) (shown : List Remark) : Type 0 where
   pub kinds : List (Option RemarkKind)
   pub all : length kinds ≡ length rows
   pub each : (place : ℕ) (row : Row) (kind : Option RemarkKind) → place < length rows
-      → IsKind rules rows place (slice_index_or rows place row) (slice_index_or kinds place kind)
+      → IsKind rules rows (called_of rows kinds) (called_behind place rows kinds) place
+      (slice_index_or rows place row) (slice_index_or kinds place kind)
+  pub together : AllowSame rules (row_views rows) (row_views rows)
+      (without_all (called_of rows kinds) (row_views rows))
   pub remarks : shown ≡ remarks_of_kinds rows kinds

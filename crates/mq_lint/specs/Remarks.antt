@@ -11,10 +11,11 @@ use Rattle.mq_acl.specs.declared.fault.AclFault.{AclFault}
 use Rattle.mq_acl.specs.declared.rules.Rules.{Rules}
 use Rattle.mq_acl.specs.declared.rules.Rules.TheVariants.{Own, Mosquitto}
 use Rattle.mq_lint.specs.Blanks.{is_indented_comment, is_tabbed}
+use Rattle.mq_lint.specs.Hidden.{is_obscure}
 use Rattle.mq_lint.specs.declared.remark.Remark.{Remark}
 use Rattle.mq_lint.specs.declared.remark.RemarkKind.{RemarkKind}
 use Rattle.mq_lint.specs.declared.remark.RemarkKind.TheVariants.{Fault, NoMark, IndentedComment}
-use Rattle.mq_lint.specs.declared.remark.RemarkKind.TheVariants.{Tab}
+use Rattle.mq_lint.specs.declared.remark.RemarkKind.TheVariants.{Hidden, Tab}
 
 -- `%c` or `%u` stands in the topic
 abbrev pub has_mark : List ℕ → Bool
@@ -39,12 +40,17 @@ abbrev pub is_odd_by : Rules → Bool → Bool
 is_odd_by Own odd = odd
 is_odd_by Mosquitto odd = false
 
--- all that is odd about a line
-abbrev pub line_remarks : Rules → ℕ → List ℕ → List Remark
-line_remarks rules number line =
+-- what is odd about a line as a line of a list
+abbrev pub odd_remarks : Rules → ℕ → List ℕ → List Remark
+odd_remarks rules number line =
     remark_on number (entry_kind (entry_by rules line))
     ++ remark_on number (kind_if (is_odd_by rules (is_indented_comment line)) IndentedComment)
     ++ remark_on number (kind_if (is_odd_by rules (is_tabbed line)) Tab)
+
+-- all that is odd about it
+abbrev pub line_remarks : Rules → ℕ → List ℕ → List Remark
+line_remarks rules number line =
+    odd_remarks rules number line ++ remark_on number (kind_if (is_obscure line) Hidden)
 
 -- all that is odd about the lines, which are counted from this number
 abbrev pub remarks_from : Rules → ℕ → List (List ℕ) → List Remark

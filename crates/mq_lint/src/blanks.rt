@@ -32,7 +32,8 @@ fn without_blanks(text: &[u8]) -> &[u8]
     &text[blank_len(text)..]
 }
 
-fn without_endings(text: &[u8]) -> &[u8]
+/// The text without the blanks and CRs behind it.
+pub(crate) fn without_endings(text: &[u8]) -> &[u8]
     ensures { result.now ≡ without_trailing is_ending text.now }
 {
     let mut end = text.len();

@@ -5,11 +5,14 @@ ghost use Rattle.std.specs.List.{filter};
 ghost use Rattle.mq_acl.specs.Views.{row_view};
 ghost use Rattle.mq_witness.specs.Rows.{lent_rows};
 ghost use Rattle.mq_differences.specs.Marks.{views_of};
-ghost use Rattle.mq_lint.specs.Needless.{without};
+ghost use Rattle.mq_lint.specs.Needless.{without, without_all};
 ghost use Rattle.mq_lint.specs.Cases.{Finds, FindsNone, GrantsAlone, GrantsNone, IsNeeded};
 ghost use Rattle.mq_lint.specs.Cases.{IsNeedlessIn, IsNeedlessTo, MeetsGrant, NoneAt, NoneMeets};
+ghost use Rattle.mq_lint.specs.Cases.{AreMarked, has_row};
+ghost use Rattle.mq_lint.specs.Left.{left_of};
 ghost use Rattle.mq_lint.specs.Cases.{Precedes, is_at, is_before, others_of, permits};
 
+use crate::called::Called;
 use crate::fault::NeedlessFault;
 use crate::question::Question;
 use crate::same::same_row;
@@ -23,13 +26,17 @@ const GATHERED: u64 = 4;
 // Ranks are below it.
 const RANKS: u8 = 4;
 
-/// A row of a list, clients of one class, and the other rows for these clients.
+/// A row of a list, clients of one class, and the other rows for these clients that are left.
 pub(crate) struct Case<'q, 'a> {
     pub question: Question<'q, 'a>,
+    /// Those that aren't left.
+    pub called: &'q Called<'a>,
     /// But for those that say the same as the row.
     pub others: Vec<&'a Row>,
     ghost are_others: { lent_rows others.items ≡ others_of question.clients
-        (row_view question.row.now) question.asked.now.rows },
+        (row_view question.row.now) (left_of question.asked.now called.now) },
+    ghost inside: { has_row (row_view question.row.now)
+        (left_of question.asked.now called.now) ≡ true },
 }
 
 // Opaque to callers' proofs: one step, and not one for each field (docs/explanation/gate.md).
@@ -37,21 +44,28 @@ impl Drop for Case<'_, '_> {
     fn drop(self) {
         let Case {
             question: _,
+            called: _,
             others: _,
         } = self;
     }
 }
 
-/// Adds those of the rows that don't say the same as this one.
+/// Adds those of the rows that are left and don't say the same as this one.
 pub(crate) fn add_others<'a>(
     others: &mut Vec<&'a Row>,
+    called: &Called<'a>,
     rows: &[Marked<'a>],
     row: &Row,
 ) -> Result<(), AllocError>
+    requires { AreMarked called.now.rows.now rows.now }
     ensures { OnOk result (lent_rows others.new.items
-        ≡ lent_rows others.old.items ++ without (row_view row.now) (views_of rows.now)) }
+        ≡ lent_rows others.old.items ++ without (row_view row.now)
+        (without_all (lent_rows called.entry.now.called.items) (views_of rows.now))) }
 {
     for m in rows {
+        if called.is_out(m.place) {
+            continue;
+        }
         if same_row(m.row, row) {
             continue;
         }
@@ -135,11 +149,11 @@ impl<'q, 'a> Case<'q, 'a> {
         place: u8,
     ) -> Result<bool, NeedlessFault>
         ensures some { IfOk result (λ found. found ≡ true → Precedes
-            self.now.question.asked.now self.now.question.clients
-            (row_view self.now.question.row.now) direction place) }
+            self.now.question.asked.now (left_of self.now.question.asked.now self.now.called.now)
+            self.now.question.clients (row_view self.now.question.row.now) direction place) }
         ensures none { IfOk result (λ found. found ≡ false → NoneAt
-            self.now.question.asked.now self.now.question.clients
-            (row_view self.now.question.row.now) direction place) }
+            self.now.question.asked.now (left_of self.now.question.asked.now self.now.called.now)
+            self.now.question.clients (row_view self.now.question.row.now) direction place) }
         ensures fault { IfErr result (IsStop self.now.question.row.now.line
             self.now.question.limited) }
     {
@@ -164,11 +178,11 @@ impl<'q, 'a> Case<'q, 'a> {
         direction: Direction,
     ) -> Result<bool, NeedlessFault>
         ensures some { IfOk result (λ alone. alone ≡ true → GrantsAlone
-            self.now.question.asked.now self.now.question.clients
-            (row_view self.now.question.row.now) direction) }
+            self.now.question.asked.now (left_of self.now.question.asked.now self.now.called.now)
+            self.now.question.clients (row_view self.now.question.row.now) direction) }
         ensures none { IfOk result (λ alone. alone ≡ false → GrantsNone
-            self.now.question.asked.now self.now.question.clients
-            (row_view self.now.question.row.now) direction) }
+            self.now.question.asked.now (left_of self.now.question.asked.now self.now.called.now)
+            self.now.question.clients (row_view self.now.question.row.now) direction) }
         ensures fault { IfErr result (IsStop self.now.question.row.now.line
             self.now.question.limited) }
     {
@@ -189,10 +203,11 @@ impl<'q, 'a> Case<'q, 'a> {
         direction: Direction,
     ) -> Result<bool, NeedlessFault>
         ensures needed { IfOk result (λ needed. needed ≡ true → IsNeeded
-            self.now.question.asked.now (row_view self.now.question.row.now)) }
+            self.now.question.asked.now (left_of self.now.question.asked.now self.now.called.now)
+            (row_view self.now.question.row.now)) }
         ensures needless { IfOk result (λ needed. needed ≡ false → IsNeedlessIn
-            self.now.question.asked.now self.now.question.clients
-            (row_view self.now.question.row.now) direction) }
+            self.now.question.asked.now (left_of self.now.question.asked.now self.now.called.now)
+            self.now.question.clients (row_view self.now.question.row.now) direction) }
         ensures fault { IfErr result (IsStop self.now.question.row.now.line
             self.now.question.limited) }
     {
@@ -214,10 +229,11 @@ impl<'q, 'a> Case<'q, 'a> {
     /// Whether the list without the row allows these clients something else.
     pub(crate) fn is_needed(&self, alloc: Global, steps: &mut Steps) -> Result<bool, NeedlessFault>
         ensures needed { IfOk result (λ needed. needed ≡ true → IsNeeded
-            self.now.question.asked.now (row_view self.now.question.row.now)) }
-        ensures needless { IfOk result (λ needed. needed ≡ false → IsNeedlessTo
-            self.now.question.asked.now self.now.question.clients
+            self.now.question.asked.now (left_of self.now.question.asked.now self.now.called.now)
             (row_view self.now.question.row.now)) }
+        ensures needless { IfOk result (λ needed. needed ≡ false → IsNeedlessTo
+            self.now.question.asked.now (left_of self.now.question.asked.now self.now.called.now)
+            self.now.question.clients (row_view self.now.question.row.now)) }
         ensures fault { IfErr result (IsStop self.now.question.row.now.line
             self.now.question.limited) }
     {

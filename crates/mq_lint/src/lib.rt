@@ -9,8 +9,11 @@
 #![tactic(auto)]
 
 mod blanks;
+mod called;
 mod case;
 mod fault;
+mod hidden;
+mod ids;
 mod lint;
 mod linted;
 mod maker;
@@ -21,6 +24,7 @@ mod repeats;
 mod same;
 
 pub use fault::NeedlessFault;
+pub use ids::Ids;
 pub use lint::remarks;
 pub use needless_lines::needless;
 pub use remark::{Remark, RemarkKind};

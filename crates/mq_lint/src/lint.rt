@@ -9,6 +9,7 @@ ghost use Rattle.mq_lint.specs.Remarks.{is_odd_by, is_unmarked, entry_kind, kind
 ghost use Rattle.mq_lint.specs.Remarks.{line_remarks, remarks_of, faults_shown};
 
 use crate::blanks::{is_indented_comment, is_tabbed};
+use crate::hidden::is_obscure;
 use crate::remark::{Remark, RemarkKind};
 use mq_acl::{AclKind, Owner, Row, Rules, has_mark, read_rows_by};
 use mq_topic::LevelText;
@@ -85,14 +86,17 @@ fn add_line(
         RemarkKind::IndentedComment,
     );
     let tab = kind_if(is_odd_by(rules, is_tabbed(bytes)), RemarkKind::Tab);
+    let hidden = kind_if(is_obscure(bytes), RemarkKind::Hidden);
     add(remarks, number, entry)?;
     add(remarks, number, comment)?;
-    add(remarks, number, tab)
+    add(remarks, number, tab)?;
+    add(remarks, number, hidden)
 }
 
 /// What is odd about the lines of the access list with this text, read by these rules, in their
 /// order: each fault, and not the first alone; `pattern` lines without a mark; and, by our own
-/// rules, what mosquitto 2.0 reads otherwise, or doesn't start with.
+/// rules, what mosquitto 2.0 reads otherwise, or doesn't start with; and characters that a terminal
+/// acts on, or that can't be seen.
 pub fn remarks(alloc: Global, rules: Rules, text: &str) -> Result<Vec<Remark>, AllocError>
     ensures all { IfOk result (λ remarks. remarks.items ≡ remarks_of rules text.now) }
     ensures faults { IfOk result (λ remarks. faults_shown remarks.items

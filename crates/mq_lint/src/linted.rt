@@ -1,13 +1,17 @@
 //! A list that is asked which of its rows are needless.
 ghost use Rattle.std.specs.Prelude.{◌≡◌, ◌<◌, ◌∷◌, [], IfOk, IfErr, true, map, length};
-ghost use Rattle.mq_acl.specs.Views.{owner_view, row_view};
+ghost use Rattle.mq_acl.specs.Views.{owner_view, row_view, row_views};
 ghost use Rattle.mq_witness.specs.Clients.{name_passes};
 ghost use Rattle.mq_witness.specs.Rows.{is_user_of};
 ghost use Rattle.mq_witness.specs.declared.clients.Clients.TheVariants.{Anonymous, Named, Others};
 ghost use Rattle.mq_lint.specs.Cases.{AreClasses, IsLint, has_row};
+ghost use Rattle.mq_lint.specs.Ids.{ids_of};
+ghost use Rattle.mq_lint.specs.Left.{left_of};
 
+use crate::called::Called;
 use crate::case::{Case, add_others};
 use crate::fault::NeedlessFault;
+use crate::ids::{Ids, ids_of};
 use crate::question::Question;
 use mq_acl::{Owner, Row, Rules};
 use mq_differences::{ByOwner, enough_steps};
@@ -22,9 +26,12 @@ pub(crate) struct Lint<'a> {
     by_owner: ByOwner<'a>,
     /// All clients: those of user names that no row names first, since a row for some clients alone isn't for them.
     classes: Vec<Clients<'a>>,
+    /// Whom remarks are about.
+    pub ids: Ids,
     /// Whether the steps are.
     pub limited: bool,
     ghost is_lint: { IsLint rules rows.now asked by_owner classes.items },
+    ghost ids_are: { ids ≡ ids_of rules (row_views rows.now) },
 }
 
 // Opaque to callers' proofs: one step, and not one for each field (docs/explanation/gate.md).
@@ -36,6 +43,7 @@ impl Drop for Lint<'_> {
             asked: _,
             by_owner: _,
             classes: _,
+            ids: _,
             limited: _,
         } = self;
     }
@@ -91,6 +99,7 @@ impl<'a> Lint<'a> {
             asked,
             by_owner,
             classes,
+            ids: ids_of(rules, rows),
             limited: steps < enough_steps(rows.len()),
         })
     }
@@ -131,25 +140,29 @@ impl<'a> Lint<'a> {
         }
     }
 
-    /// The same, with the other rows for these clients.
+    /// The same, with the other rows for these clients that are left.
     pub(crate) fn case<'c>(
         &'c self,
         alloc: Global,
+        called: &'c Called<'a>,
         clients: Clients<'c>,
         row: &'c Row,
     ) -> Result<Case<'c, 'a>, AllocError>
+        requires rows { called.now.rows.now ≡ self.now.rows.now }
         requires listed { name_passes (λ u. is_user_of u self.now.asked.rows) clients ≡ true }
-        requires inside { has_row (row_view row.now) self.now.asked.rows ≡ true }
+        requires inside { has_row (row_view row.now) (left_of self.now.asked called.now) ≡ true }
         ensures asked { IfOk result (λ case. case.question.asked.now ≡ self.entry.now.asked) }
+        ensures called { IfOk result (λ case. case.called.now ≡ called.entry.now) }
         ensures clients { IfOk result (λ case. case.question.clients ≡ clients.entry) }
         ensures row { IfOk result (λ case. case.question.row.now ≡ row.entry.now) }
         ensures limited { IfOk result (λ case. case.question.limited ≡ self.entry.now.limited) }
     {
         let mut others = Vec::new(alloc);
-        add_others(&mut others, self.by_owner.everyones(), row)?;
-        add_others(&mut others, self.by_owner.own(clients), row)?;
+        add_others(&mut others, called, self.by_owner.everyones(), row)?;
+        add_others(&mut others, called, self.by_owner.own(clients), row)?;
         Ok(Case {
             question: self.question(clients, row),
+            called,
             others,
         })
     }

@@ -11,9 +11,9 @@ ghost use Rattle.mq_lint.specs.NeedlessFault.{IsStop};
 ghost use Rattle.mq_lint.specs.Cases.{Finds, covers_access, grants_as_much, has_row, maker_cover};
 ghost use Rattle.mq_lint.specs.Cases.{MissesRow, may_be_for};
 
+use crate::called::Called;
 use crate::fault::NeedlessFault;
 use crate::linted::Lint;
-use crate::same::same_row;
 use mq_acl::{Access, Direction, Owner, Row, Rules, grants, is_deny};
 use mq_differences::{Steps, rank};
 use mq_witness::{Clients, may_overlap};
@@ -153,20 +153,23 @@ fn may_meet(rules: Rules, clients: Option<Clients>, row: &Row, other: &Row) -> b
     }
 }
 
-/// The line of the first other row that makes the row needless.
-pub(crate) fn maker(
+/// The line of the first row that is left and makes the row needless.
+pub(crate) fn maker<'a>(
     alloc: Global,
-    lint: &Lint,
+    lint: &Lint<'a>,
     steps: &mut Steps,
+    called: &Called<'a>,
     row: &Row,
 ) -> Result<Option<u64>, NeedlessFault>
-    requires { has_row (row_view row.now) lint.now.asked.rows ≡ true }
-    ensures by { IfOk result (IsBy lint.now.asked.rules lint.now.rows.now (row_view row.now)) }
-    ensures fault { IfErr result (IsStop row.now.line lint.now.limited) }
+    requires rows { called.now.rows.now ≡ lint.now.rows.now }
+    requires inside { has_row (row_view row.now) lint.now.asked.rows ≡ true }
+    ensures by { IfOk result (IsBy lint.entry.now.asked.rules lint.entry.now.rows.now
+        (lent_rows called.entry.now.called.items) (row_view row.now)) }
+    ensures fault { IfErr result (IsStop row.now.line lint.entry.now.limited) }
 {
     let clients = concerned(alloc, lint, steps, row)?;
-    for other in lint.rows {
-        if same_row(other, row) {
+    for (place, other) in lint.rows.iter().enumerate() {
+        if called.is_out(place) {
             continue;
         }
         if !may_be_for(clients, other) {

@@ -3,6 +3,8 @@ use Rattle.mq_acl.specs.Views.{row_view}
 use Rattle.mq_acl.specs.declared.row.Row.{Row}
 use Rattle.mq_witness.specs.Rows.{lent_rows}
 use Rattle.mq_lint.specs.Cases.{NoneMeets, permits}
+use Rattle.mq_lint.specs.Left.{left_of}
+use Rattle.mq_lint.proofs.LeftLemmas.{left_within}
 use Rattle.mq_lint.proofs.CaseLemmas.{other_inside}
 use Rattle.mq_lint.proofs.ListLemmas.{meets_grant}
 use Rattle.mq_lint.proofs.LoopLemmas.{NoneMet, all_more, none_met, passed_met}
@@ -21,7 +23,8 @@ loop-other-preserved-then-is_deny c =
 pub stands_out_with-requires-clause-other : goal.stands_out_with-requires-clause-other
 stands_out_with-requires-clause-other c =
     let q = c.args.self.now.question in
-    other_inside q.clients (row_view q.row.now) q.asked.now.rows c.args.self.now.others.items
+    other_inside q.clients (row_view q.row.now) (left_of q.asked.now c.args.self.now.called.now)
+    q.asked.now.rows (left_within q.asked.now c.args.self.now.called.now) c.args.self.now.others.items
     c.deref-other-items.result.now c.loop-other.other-index c.other-item.result
     c.args.self.now.are_others c.deref-other-items.ensures.value c.loop-other-test.true
     c.other-item.is
@@ -31,7 +34,8 @@ returns-then-branch-clause-some c = λ _.
     let q = c.args.self.now.question in
     meets_grant q.asked.now q.clients (row_view q.row.now) (row_view c.other-item.result.now)
     (sym c.is_deny.ensures ∙ c.if-is_deny.false)
-    (other_inside q.clients (row_view q.row.now) q.asked.now.rows c.args.self.now.others.items
+    (other_inside q.clients (row_view q.row.now) (left_of q.asked.now c.args.self.now.called.now)
+    q.asked.now.rows (left_within q.asked.now c.args.self.now.called.now) c.args.self.now.others.items
     c.deref-other-items.result.now c.loop-other.other-index c.other-item.result
     c.args.self.now.are_others c.deref-other-items.ensures.value c.loop-other-test.true
     c.other-item.is)

@@ -4,6 +4,8 @@ use Rattle.mq_acl.specs.declared.row.Row.{Row}
 use Rattle.mq_acl.specs.declared.rules.Rules.{Rules}
 use Rattle.mq_witness.specs.Rows.{lent_rows}
 use Rattle.mq_lint.specs.Cases.{Finds, FindsNone, NoneMeets, before, is_at, is_before, others_of}
+use Rattle.mq_lint.specs.Left.{left_of}
+use Rattle.mq_lint.proofs.LeftLemmas.{left_within}
 use Rattle.mq_lint.proofs.CaseLemmas.{kept_contained, lent_others, other_among, other_inside}
 use Rattle.mq_lint.proofs.LoopLemmas.{NoneMet, all_more, met_others, none_met, passed_met}
 use Rattle.mq_lint.proofs.case.Case.precedes.Goals as goal
@@ -23,7 +25,8 @@ loop-other-preserved-then-not-is_at c =
 pub meets-requires-clause-other : goal.meets-requires-clause-other
 meets-requires-clause-other c =
     let q = c.args.self.now.question in
-    other_inside q.clients (row_view q.row.now) q.asked.now.rows c.args.self.now.others.items
+    other_inside q.clients (row_view q.row.now) (left_of q.asked.now c.args.self.now.called.now)
+    q.asked.now.rows (left_within q.asked.now c.args.self.now.called.now) c.args.self.now.others.items
     c.deref-other-items.result.now c.loop-other.other-index c.other-item.result
     c.args.self.now.are_others c.deref-other-items.ensures.value c.loop-other-test.true
     c.other-item.is
@@ -32,10 +35,11 @@ pub meets-requires-clause-cover : goal.meets-requires-clause-cover
 meets-requires-clause-cover c =
     let q = c.args.self.now.question in
     let t = is_before q.rules c.args.direction c.args.place in
-    kept_contained t q.clients (row_view q.row.now) q.asked.now.rows
+    kept_contained t q.clients (row_view q.row.now) (left_of q.asked.now c.args.self.now.called.now)
+    q.asked.now.rows (left_within q.asked.now c.args.self.now.called.now)
     (lent_rows c.deref-in-loop-other.result.now)
     (ap (λ (l : List (Bor Row)). lent_rows l) c.deref-in-loop-other.ensures.value
-    ∙ lent_others t q.clients (row_view q.row.now) q.asked.now.rows c.args.self.now.others.items
+    ∙ lent_others t q.clients (row_view q.row.now) (left_of q.asked.now c.args.self.now.called.now) c.args.self.now.others.items
     c.deref.result.now c.in_ok-cover.cover.items c.args.self.now.are_others c.deref.ensures.value
     c.in_ok-cover.ensures)
 
@@ -47,18 +51,18 @@ returns-then-branch-clause-some c = λ _.
     let t = is_before q.rules c.args.direction c.args.place in
     record {
       other = other;
-      inside = other_among q.clients row q.asked.now.rows c.args.self.now.others.items
+      inside = other_among q.clients row (left_of q.asked.now c.args.self.now.called.now) c.args.self.now.others.items
           c.deref-other-items.result.now c.loop-other.other-index c.other-item.result
           c.args.self.now.are_others c.deref-other-items.ensures.value c.loop-other-test.true
           c.other-item.is;
       is_of = ap (λ (rules : Rules). is_at rules c.args.direction c.args.place other)
           (sym q.can_ask.rules_are) ∙ (sym c.is_at.ensures ∙ c.if-not-is_at.false);
       finds = subst (λ (rules : Rules). Finds q.asked.now q.clients (row ∷ (other ∷ []))
-          (before rules c.args.direction c.args.place (others_of q.clients row q.asked.now.rows)))
+          (before rules c.args.direction c.args.place (others_of q.clients row (left_of q.asked.now c.args.self.now.called.now))))
           q.can_ask.rules_are
           (subst (Finds q.asked.now q.clients (row ∷ (other ∷ [])))
           (ap (λ (l : List (Bor Row)). lent_rows l) c.deref-in-loop-other.ensures.value
-          ∙ lent_others t q.clients row q.asked.now.rows c.args.self.now.others.items
+          ∙ lent_others t q.clients row (left_of q.asked.now c.args.self.now.called.now) c.args.self.now.others.items
           c.deref.result.now c.in_ok-cover.cover.items c.args.self.now.are_others
           c.deref.ensures.value c.in_ok-cover.ensures)
           (c.in_ok-meets.ensures.found c.if-branch.true));
@@ -81,18 +85,19 @@ pub returns-clause-none : goal.returns-clause-none
 returns-clause-none c = λ _.
     let q = c.args.self.now.question in
     let row = row_view q.row.now in
-    let others = others_of q.clients row q.asked.now.rows in
+    let others = others_of q.clients row (left_of q.asked.now c.args.self.now.called.now) in
     let t = is_before q.rules c.args.direction c.args.place in
     subst (λ (rules : Rules). NoneMeets q.asked.now q.clients row
     (is_at rules c.args.direction c.args.place)
     (before rules c.args.direction c.args.place others) others) q.can_ask.rules_are
     (subst (λ l. NoneMeets q.asked.now q.clients row (is_at q.rules c.args.direction c.args.place)
     l others)
-    (lent_others t q.clients row q.asked.now.rows c.args.self.now.others.items c.deref.result.now
+    (lent_others t q.clients row (left_of q.asked.now c.args.self.now.called.now) c.args.self.now.others.items c.deref.result.now
     c.in_ok-cover.cover.items c.args.self.now.are_others c.deref.ensures.value
     c.in_ok-cover.ensures)
     (met_others q.asked.now q.clients row (is_at q.rules c.args.direction c.args.place)
-    (lent_rows c.in_ok-cover.cover.items) c.args.self.now.others.items
+    (lent_rows c.in_ok-cover.cover.items) (left_of q.asked.now c.args.self.now.called.now)
+    c.args.self.now.others.items
     c.deref-other-items.result.now c.args.self.now.are_others c.deref-other-items.ensures.value
     (none_met q.asked.now q.clients row (is_at q.rules c.args.direction c.args.place)
     (lent_rows c.in_ok-cover.cover.items) c.deref-other-items.result.now c.loop-other.other-index
