@@ -1,5 +1,5 @@
 -- What comes of a line of a file of expectations.
-use Rattle.std.specs.Prelude.{◌≡◌, ℕ, Bool, true, false, List, Option, Some, None, Result, Ok, Err, IsSomeAnd}
+use Rattle.std.specs.Prelude.{◌≡◌, ◌++◌, ℕ, Bool, true, false, List, string_bytes, Option, Some, None, Result, Ok, Err, IsSomeAnd}
 use Rattle.std.specs.Prelude.{All, Contains}
 use Rattle.std.specs.List.{list_all}
 use Rattle.mq_topic.specs.Levels.{levels}
@@ -20,6 +20,7 @@ use Rattle.mq_differences.specs.declared.way.Way.TheVariants.{Gained, Lost}
 use Rattle.mq_expect.specs.Expectations.{AtLeast, AtMost, Claim, Claims, Entry}
 use Rattle.mq_expect.specs.declared.fault.ExpectationKind.{ExpectationKind}
 use Rattle.mq_who.specs.Claims.{IsJudgement}
+use Rattle.mq_who.specs.Unasked.{is_not_compared}
 use Rattle.mq_who.specs.declared.judge.Judgement.TheVariants as judged
 use Rattle.mq_acl_test.specs.Lists.{rows_in}
 use Rattle.mq_acl_test.specs.Questions.{Question, asked_view}
@@ -42,6 +43,8 @@ IsClaimed rules rows claim (found.Unnamed user) =
     IsJudgement rules rows claim (judged.Unnamed user)
 IsClaimed rules rows claim (found.Unasked user) =
     IsJudgement rules rows claim (judged.Unasked user)
+IsClaimed rules rows claim (found.LeavesOut user) =
+    IsJudgement rules rows claim (judged.LeavesOut user)
 IsClaimed rules rows claim found.LongLevel = has_short_levels claim.topics ≡ false
 IsClaimed rules rows claim found.PartMark =
     (rules ≡ Mosquitto) × (list_all is_pattern_level (levels claim.topics) ≡ false)
@@ -62,9 +65,18 @@ abbrev pub IsKept : Rules → Way → (bound rows : List Row) → Type 0
 IsKept rules Gained bound rows = IsWithin rules rows bound bound rows
 IsKept rules Lost bound rows = IsWithin rules bound rows bound rows
 
--- the list allows something more than the other one, or something less, as the difference shows
+-- each user whom a line of one of the lists names is compared
+abbrev pub LeavesNoneOut : Rules → (bound rows : List Row) → Type 0
+LeavesNoneOut rules bound rows = (name : List ℕ)
+    → is_not_compared rules (row_views bound ++ row_views rows) name ≡ false
+
+-- it does, and no user whom a line names is left out, or this one is; or the list allows something more than the
+-- other one, or something less, as the difference shows
 abbrev pub IsBound : Rules → Way → (bound rows : List Row) → Finding → Type 0
-IsBound rules way bound rows found.Holds = IsKept rules way bound rows
+IsBound rules way bound rows found.Holds =
+    IsKept rules way bound rows × LeavesNoneOut rules bound rows
+IsBound rules way bound rows (found.LeavesOut user) = IsKept rules way bound rows
+    × (is_not_compared rules (row_views bound ++ row_views rows) (string_bytes user) ≡ true)
 IsBound rules way bound rows (found.Differs d) = IsReal rules bound rows d × (d.way ≡ way)
 IsBound rules way bound rows finding = ⊥
 

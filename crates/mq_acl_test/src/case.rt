@@ -2,9 +2,10 @@
 use crate::finding::Finding;
 use crate::list::ReadList;
 use crate::verdicts::Verdict;
-use mq_acl_print::{Line, ListText};
+use mq_acl_print::{Line, ListText, has_wildcard};
 use mq_differences::{Difference, Reason};
 use mq_expect::Expectation;
+use mq_topic::LevelText;
 
 /// A client and a topic, with what decides in each list.
 #[derive(Clone, Copy, Drop)]
@@ -15,6 +16,19 @@ pub(crate) struct Case<'v> {
     pub(crate) decided: Decided<'v>,
     /// What decides in the one that it is compared with, if it is.
     pub(crate) other: Option<Decided<'v>>,
+    // Whether several topics are asked about.
+    several: bool,
+}
+
+impl Case<'_> {
+    /// Whether the topic is one of perhaps several.
+    pub(crate) fn may_have_several(self) -> bool {
+        let of_other = match self.other {
+            Some(other) => other.may_have_several(),
+            None => true,
+        };
+        self.several && self.decided.may_have_several() && of_other
+    }
 }
 
 /// What decides in a list.
@@ -33,6 +47,14 @@ impl<'v> Decided<'v> {
             number,
             text: self.list.line(number),
         })
+    }
+
+    // Whether it decides about several topics, or is no line.
+    fn may_have_several(self) -> bool {
+        match self.line() {
+            Some(line) => has_wildcard(line.text),
+            None => true,
+        }
     }
 
     /// Whether it is allowed.
@@ -79,13 +101,23 @@ pub(crate) fn case_of<'v>(
             shown,
             decided: decision(lists, file, shown.old_reason)?,
             other: None,
+            several: is_of_several(verdict),
         }),
         Finding::Differs(shown) => Some(Case {
             shown,
             decided: decision(lists, file, shown.new_reason)?,
             other: decision(lists, bound_of(verdict), shown.old_reason),
+            several: true,
         }),
         _ => None,
+    }
+}
+
+// Whether the line is about several topics: its filter has a wildcard.
+fn is_of_several(verdict: &Verdict<'_, '_>) -> bool {
+    match &verdict.asked.expectation.says {
+        Ok(Expectation::Claim(claim)) => has_wildcard(claim.filter.text()),
+        _ => true,
     }
 }
 

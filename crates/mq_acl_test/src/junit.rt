@@ -2,7 +2,7 @@
 use crate::list::ReadList;
 use crate::text::add_why;
 use crate::verdicts::{Verdict, holding};
-use mq_acl_print::{Lines, ListText, lines_of};
+use mq_acl_print::{Escape, Lines, ListText, lines_of, shown_lines};
 use std::alloc::{AllocError, Global};
 
 // What stands for a character in a text, or in an attribute, if it can't stand for itself. XML 1.0 has no place for the
@@ -111,5 +111,5 @@ pub fn junit_text(
         add_case(alloc, &mut text, expectations, lists, verdict)?;
     }
     text.push_str("  </testsuite>\n</testsuites>\n")?;
-    Ok(text)
+    shown_lines(alloc, text.as_str(), Escape::Words)
 }

@@ -16,10 +16,20 @@ fn kind_name(finding: &Finding<'_>) -> &'static str {
         Finding::NoneMay(_) => "none may",
         Finding::Unnamed(_) => "unnamed",
         Finding::Unasked(_) => "unasked",
+        Finding::LeavesOut(_) => "not asked",
         Finding::Fault(_) => "fault",
         Finding::LongLevel => "long level",
         Finding::PartMark => "part of a level",
         Finding::NoList => "no list",
+    }
+}
+
+// The user about whom nothing is asked, if it is of one.
+fn not_asked<'v>(finding: &'v Finding<'_>) -> Option<&'v str> {
+    match finding {
+        Finding::Unasked(user) => Some(*user),
+        Finding::LeavesOut(user) => Some(user.as_str()),
+        _ => None,
     }
 }
 
@@ -91,6 +101,7 @@ fn add_one<'v>(
             ("kind", Datum::Text(kind_name(&verdict.finding))),
             ("line", Datum::Number(number)),
             ("list", Datum::TextIf(verdict.asked.list)),
+            ("not_asked", Datum::TextIf(not_asked(&verdict.finding))),
             ("other", Datum::LineIf(shown.other)),
             ("placeholders", Datum::Texts(shown.placeholders)),
             ("text", Datum::Text(expectations.line(number))),

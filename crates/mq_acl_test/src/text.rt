@@ -6,8 +6,7 @@ use crate::objects::json_lines;
 use crate::verdicts::{Verdict, holding};
 use crate::words::finding_words;
 use mq_acl::{Direction, Rules};
-use mq_acl_print::{Lines, ListText, lines_of, shown_topic, who_text};
-use mq_differences::Difference;
+use mq_acl_print::{Escape, Lines, ListText, lines_of, shown_lines, shown_topic, who_text};
 use std::alloc::{AllocError, Global};
 
 fn access_words(direction: Direction, may: bool) -> &'static str {
@@ -19,16 +18,17 @@ fn access_words(direction: Direction, may: bool) -> &'static str {
     }
 }
 
-fn add_shown(
-    alloc: Global,
-    text: &mut String,
-    shown: &Difference,
-    may: bool,
-) -> Result<(), AllocError> {
-    let access = access_words(shown.direction, may);
+fn add_shown(alloc: Global, text: &mut String, case: Case<'_>) -> Result<(), AllocError> {
+    let shown = case.shown;
+    let access = access_words(shown.direction, case.decided.is_allowed());
     let who = who_text(alloc, &[shown])?;
+    let example = if case.may_have_several() {
+        "for example "
+    } else {
+        ""
+    };
     let topic = shown_topic(alloc, shown)?;
-    writeln!(text, "    {access}  {who}  {topic}")
+    writeln!(text, "    {access}  {who}  {example}{topic}")
 }
 
 fn add_decided(text: &mut String, decided: Decided<'_>) -> Result<(), AllocError> {
@@ -45,7 +45,7 @@ fn add_decided(text: &mut String, decided: Decided<'_>) -> Result<(), AllocError
 }
 
 fn add_case(alloc: Global, text: &mut String, case: Case<'_>) -> Result<(), AllocError> {
-    add_shown(alloc, text, case.shown, case.decided.is_allowed())?;
+    add_shown(alloc, text, case)?;
     if let Some(other) = case.other {
         add_decided(text, other)?;
     }
@@ -54,7 +54,10 @@ fn add_case(alloc: Global, text: &mut String, case: Case<'_>) -> Result<(), Allo
 
 // Whether it is the list that lacks something.
 fn is_of_list(finding: &Finding<'_>) -> bool {
-    matches!(finding, Finding::NoneMay(_) | Finding::Unnamed(_))
+    matches!(
+        finding,
+        Finding::NoneMay(_) | Finding::Unnamed(_) | Finding::LeavesOut(_)
+    )
 }
 
 // Adds why the line doesn't hold.
@@ -109,7 +112,7 @@ fn words(
         Rules::Mosquitto => " by mosquitto's rules",
     };
     writeln!(text, "{hold} of {all} hold{whose}")?;
-    Ok(text)
+    shown_lines(alloc, text.as_str(), Escape::Words)
 }
 
 /// The lines that don't hold, each with why, and how many do; or as JSON, all of them, one a line,

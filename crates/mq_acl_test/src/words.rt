@@ -1,11 +1,9 @@
 //! Why a line doesn't hold, where no client and topic show it.
 use crate::finding::Finding;
 use mq_acl::Direction;
+use mq_acl_print::NOT_ASKED;
 use mq_expect::ExpectationKind;
 use std::alloc::{AllocError, Global};
-
-const UNASKED: &str =
-    "by mosquitto's rules nothing is asked about a user whose name holds /, + or #";
 
 const LONG_LEVEL: &str = "a level of the filter has more than 300 bytes";
 
@@ -48,8 +46,11 @@ pub(crate) fn finding_words(
         Finding::Unnamed(user) => return Ok(Some(format!(in alloc;
             "no line is for user {user:?}"
         )?)),
+        Finding::LeavesOut(user) => {
+            return Ok(Some(format!(in alloc; "user {user}: not asked: {NOT_ASKED}")?));
+        }
         Finding::NoneMay(direction) => none_may(*direction),
-        Finding::Unasked(_) => UNASKED,
+        Finding::Unasked(_) => NOT_ASKED,
         Finding::Fault(kind) => fault_words(*kind),
         Finding::LongLevel => LONG_LEVEL,
         Finding::PartMark => PART_MARK,

@@ -30,7 +30,7 @@ use Rattle.mq_expect.specs.Expectations.{Claim, Whom, Anyone, Anonymous, Others,
 use Rattle.mq_expect.specs.Views.{whom_view}
 use Rattle.mq_expect.specs.declared.expectation.Holds.TheVariants as holds
 use Rattle.mq_expect.specs.declared.expectation.Whom.{Whom as Named}
-use Rattle.mq_who.specs.Claims.{IsBroken, IsJudgement, IsKept, IsMissing, IsNone, IsOne}
+use Rattle.mq_who.specs.Claims.{IsAsked, IsBroken, IsKept, IsMissing, IsNone, IsOne}
 use Rattle.mq_who.specs.declared.judge.Judgement.{Judgement}
 use Rattle.mq_who.specs.declared.judge.Judgement.TheVariants as judged
 use Rattle.mq_who.specs.Claims.{AllowsNone, AllowsOne, AreOthers, IsAgainst, KeepsTo, has_class}
@@ -281,7 +281,7 @@ in_each rules rows claim others all o l r w Writing g =
 -- ---- the judgement
 pub every_judged : (rules : Rules) (rows : List Row) (claim : Claim) (j : Judgement)
     → is_asked_about rules claim.whom ≡ true → claim.holds ≡ holds.Every
-    → IsNone rules false rows claim j → IsJudgement rules rows claim j
+    → IsNone rules false rows claim j → IsAsked rules rows claim j
 every_judged rules rows claim judged.Holds a e n =
     (a, subst (IsKept rules rows claim) (sym e) n)
 every_judged rules rows claim (judged.Fails d) a e n =
@@ -289,10 +289,11 @@ every_judged rules rows claim (judged.Fails d) a e n =
 every_judged rules rows claim (judged.NoneMay direction) a e n = absurd n
 every_judged rules rows claim (judged.Unnamed user) a e n = absurd n
 every_judged rules rows claim (judged.Unasked user) a e n = absurd n
+every_judged rules rows claim (judged.LeavesOut user) a e n = absurd n
 
 pub never_judged : (rules : Rules) (rows : List Row) (claim : Claim) (j : Judgement)
     → is_asked_about rules claim.whom ≡ true → claim.holds ≡ holds.Never
-    → IsNone rules true rows claim j → IsJudgement rules rows claim j
+    → IsNone rules true rows claim j → IsAsked rules rows claim j
 never_judged rules rows claim judged.Holds a e n =
     (a, subst (IsKept rules rows claim) (sym e) n)
 never_judged rules rows claim (judged.Fails d) a e n =
@@ -300,10 +301,11 @@ never_judged rules rows claim (judged.Fails d) a e n =
 never_judged rules rows claim (judged.NoneMay direction) a e n = absurd n
 never_judged rules rows claim (judged.Unnamed user) a e n = absurd n
 never_judged rules rows claim (judged.Unasked user) a e n = absurd n
+never_judged rules rows claim (judged.LeavesOut user) a e n = absurd n
 
 pub one_judged : (rules : Rules) (rows : List Row) (claim : Claim) (j : Judgement)
     → is_asked_about rules claim.whom ≡ true → claim.holds ≡ holds.AtLeastOne
-    → IsOne rules rows claim j → IsJudgement rules rows claim j
+    → IsOne rules rows claim j → IsAsked rules rows claim j
 one_judged rules rows claim judged.Holds a e n =
     (a, subst (IsKept rules rows claim) (sym e) n)
 one_judged rules rows claim (judged.Fails d) a e n = absurd n
@@ -311,3 +313,4 @@ one_judged rules rows claim (judged.NoneMay direction) a e n =
     subst (λ h. IsMissing rules rows claim h direction) (sym e) n
 one_judged rules rows claim (judged.Unnamed user) a e n = absurd n
 one_judged rules rows claim (judged.Unasked user) a e n = absurd n
+one_judged rules rows claim (judged.LeavesOut user) a e n = absurd n

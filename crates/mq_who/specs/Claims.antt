@@ -26,6 +26,7 @@ use Rattle.mq_expect.specs.declared.expectation.Holds.{Holds}
 use Rattle.mq_expect.specs.declared.expectation.Holds.TheVariants.{Every, AtLeastOne, Never}
 use Rattle.mq_expect.specs.Views.{whom_view}
 use Rattle.mq_expect.specs.declared.expectation.Whom.{Whom as Named}
+use Rattle.mq_who.specs.Unasked.{is_unasked}
 use Rattle.mq_who.specs.Who.{IsReal, are_asked, is_asked, is_case}
 use Rattle.mq_who.specs.declared.judge.Judgement.{Judgement}
 use Rattle.mq_who.specs.declared.judge.Judgement.TheVariants as judged
@@ -39,6 +40,16 @@ is_one rows None Others = false
 is_one rows (Some user) Others = not (is_user_of user rows)
 is_one rows None (User name) = false
 is_one rows (Some user) (User name) = bytes_eq user name
+
+abbrev pub is_anyone : Whom → Bool
+is_anyone Anyone = true
+is_anyone whom = false
+
+-- it is expected of each, and not of one at least
+abbrev pub is_of_each : Holds → Bool
+is_of_each Every = true
+is_of_each AtLeastOne = false
+is_of_each Never = true
 
 -- something is expected of the client in this direction: it is one of those that are meant, and none
 -- of those that are excepted
@@ -112,6 +123,30 @@ is_asked_about Mosquitto (User name) = can_be_level name
 abbrev pub IsUnasked : Rules → Whom → Bor (List ℕ) → Type 0
 IsUnasked rules whom name = (whom ≡ User name.now) × (is_asked_about rules whom ≡ false)
 
+-- what is claimed is so of everybody only where it is of each user whom a line names
+abbrev pub is_of_all : Claim → Bool
+is_of_all claim = is_anyone claim.whom && is_of_each claim.holds
+
+-- the claim means this user, and nothing is asked about it though a line names it
+abbrev pub is_left_out : Rules → List AclRow → Claim → List ℕ → Bool
+is_left_out rules rows claim name = is_of_all claim && is_unasked rules rows name
+    && not (list_any (is_one rows (Some name)) (excepted claim.except))
+
+-- a user whom a line names is one of these
+abbrev pub is_named_one : List ℕ → Whom → Bool
+is_named_one name Anyone = true
+is_named_one name Anonymous = false
+is_named_one name Others = false
+is_named_one name (User other) = bytes_eq name other
+
+abbrev pub is_excepted : List ℕ → (others : List Named) → Bool
+is_excepted name others = list_any (λ w. is_named_one name (whom_view w)) others
+
+-- of each user whom the claim means, and whom a line names, something is asked
+abbrev pub LeavesNoneOut : Rules → List Row → Claim → Type 0
+LeavesNoneOut rules rows claim = (name : List ℕ)
+    → is_left_out rules (row_views rows) claim name ≡ false
+
 -- no line names a user that the claim means or excepts
 abbrev pub IsUnnamed : List Row → Claim → Bor (List ℕ) → Type 0
 IsUnnamed rows claim name = (is_user_of name.now (row_views rows) ≡ false)
@@ -119,13 +154,16 @@ IsUnnamed rows claim name = (is_user_of name.now (row_views rows) ≡ false)
 
 -- what is said of the claim is so
 abbrev pub IsJudgement : Rules → List Row → Claim → Judgement → Type 0
-IsJudgement rules rows claim judged.Holds =
-    (is_asked_about rules claim.whom ≡ true) × IsKept rules rows claim claim.holds
+IsJudgement rules rows claim judged.Holds = (is_asked_about rules claim.whom ≡ true)
+    × LeavesNoneOut rules rows claim × IsKept rules rows claim claim.holds
 IsJudgement rules rows claim (judged.Fails d) = IsBroken rules rows claim claim.holds d
 IsJudgement rules rows claim (judged.NoneMay direction) =
     IsMissing rules rows claim claim.holds direction
 IsJudgement rules rows claim (judged.Unnamed user) = IsUnnamed rows claim user
 IsJudgement rules rows claim (judged.Unasked user) = IsUnasked rules claim.whom user
+IsJudgement rules rows claim (judged.LeavesOut user) =
+    (is_left_out rules (row_views rows) claim (string_bytes user) ≡ true)
+    × IsKept rules rows claim claim.holds
 
 -- ---- by classes
 -- the clients of the class are among these
@@ -171,6 +209,7 @@ IsNone rules allows rows claim (judged.Fails d) = IsAgainst rules allows rows cl
 IsNone rules allows rows claim (judged.NoneMay direction) = ⊥
 IsNone rules allows rows claim (judged.Unnamed user) = ⊥
 IsNone rules allows rows claim (judged.Unasked user) = ⊥
+IsNone rules allows rows claim (judged.LeavesOut user) = ⊥
 
 -- in each direction one is meant, or in one of them none is
 abbrev pub IsOne : Rules → List Row → Claim → Judgement → Type 0
@@ -181,3 +220,11 @@ IsOne rules rows claim (judged.NoneMay direction) =
     (grants direction claim.access ≡ true) × AllowsNone rules rows claim direction
 IsOne rules rows claim (judged.Unnamed user) = ⊥
 IsOne rules rows claim (judged.Unasked user) = ⊥
+IsOne rules rows claim (judged.LeavesOut user) = ⊥
+
+-- what is said where nobody is left out
+abbrev pub IsAsked : Rules → List Row → Claim → Judgement → Type 0
+IsAsked rules rows claim judged.Holds =
+    (is_asked_about rules claim.whom ≡ true) × IsKept rules rows claim claim.holds
+IsAsked rules rows claim (judged.LeavesOut user) = ⊥
+IsAsked rules rows claim judgement = IsJudgement rules rows claim judgement

@@ -3,3 +3,4 @@ pub mod Faults
 pub mod Made
 pub mod Extents
 pub mod Claims
+pub mod Unasked

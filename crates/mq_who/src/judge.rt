@@ -1,28 +1,32 @@
 //! Whether a list keeps to what is expected of it.
 ghost use Rattle.std.specs.Prelude.{◌≡◌, ◌&&◌, Bool, List, IfOk, IfErr, IfSome, IfNone, Contains, true, false, find, map, not};
+ghost use Rattle.std.specs.Prelude.{string_bytes};
 ghost use Rattle.std.specs.List.{list_all, list_any};
-ghost use Rattle.mq_topic.specs.Texts.{contains_byte};
 ghost use Rattle.mq_acl.specs.Access.{grants};
 ghost use Rattle.mq_acl.specs.Views.{access_view, owner_view, row_view, row_views};
 ghost use Rattle.mq_acl.specs.declared.row.Row.{Row};
 ghost use Rattle.mq_acl.specs.declared.rules.Rules.{Rules};
-ghost use Rattle.mq_cover.specs.Names.{can_be_level};
 ghost use Rattle.mq_witness.specs.Limits.{has_short_levels};
 ghost use Rattle.mq_witness.specs.Rows.{is_name_of, is_user_of};
 ghost use Rattle.mq_expect.specs.Expectations.{User, excepted};
 ghost use Rattle.mq_expect.specs.Views.{claim_view, whom_view};
-ghost use Rattle.mq_who.specs.Claims.{AreOthers, IsJudgement, IsNone, IsOne, IsUnasked, has_class};
+ghost use Rattle.mq_who.specs.Claims.{AreOthers, IsAsked, IsJudgement, IsNone, IsOne, IsUnasked};
+ghost use Rattle.mq_who.specs.Claims.{LeavesNoneOut, has_class, is_excepted, is_left_out};
+ghost use Rattle.mq_who.specs.Claims.{is_named_one, is_of_all};
+ghost use Rattle.mq_who.specs.Unasked.{has_text};
 ghost use Rattle.mq_who.specs.Claims.{is_asked_about, is_known, is_meant, is_meant_in};
 ghost use Rattle.mq_who.specs.Faults.{IsWhoFault};
 ghost use Rattle.mq_who.specs.Who.{IsListing};
 
 use crate::fault::WhoFault;
+use crate::level::can_be_level;
 use crate::permissions::{has_short_levels, listed};
+use crate::unasked::unasked_users;
 use mq_acl::{Direction, Owner, Row, Rules, grants};
 use mq_differences::{Class, Difference, same_direction};
 use mq_expect::{Claim, Holds, Whom};
 use mq_topic::LevelText;
-use std::alloc::Global;
+use std::alloc::{AllocError, Global};
 
 /// Whether a list keeps to what is expected of it.
 #[derive(Drop)]
@@ -38,6 +42,10 @@ pub enum Judgement<'p> {
     Unnamed(&'p str),
     /// By mosquitto's rules nothing is asked about this user, whose name holds `/`, `+` or `#`.
     Unasked(&'p str),
+    /// It does, for each client and topic that is asked about. But the claim means this user too,
+    /// whom a line of the list names, and by mosquitto's rules nothing is asked about it, since its
+    /// name holds `/`, `+` or `#`.
+    LeavesOut(String),
 }
 
 fn is_name_of(name: &str, owner: &Owner) -> bool
@@ -89,19 +97,6 @@ fn first_unnamed<'p>(rows: &[Row], all: &[Whom<'p>]) -> Option<&'p str>
         }
     }
     None
-}
-
-fn has_byte(text: &str, byte: u8) -> bool
-    ensures { result ≡ contains_byte byte text.now }
-{
-    text.bytes().any(|other| other == byte)
-}
-
-// Whether a level of a name can be this text.
-fn can_be_level(text: &str) -> bool
-    ensures { result ≡ can_be_level text.now }
-{
-    !has_byte(text, b'+') && !has_byte(text, b'#') && !has_byte(text, 0) && !has_byte(text, b'/')
 }
 
 // The user that by these rules nothing is asked about, if it is one.
@@ -229,7 +224,7 @@ fn answer<'p>(
     requires short { has_short_levels claim.now.filter ≡ true }
     requires others { AreOthers rows.now (claim_view claim.now) others.now }
     requires asked { is_asked_about rules (whom_view claim.now.whom) ≡ true }
-    ensures judgement { IfOk result (IsJudgement rules rows.now (claim_view claim.now)) }
+    ensures judgement { IfOk result (IsAsked rules rows.now (claim_view claim.now)) }
     ensures fault { IfErr result (IsWhoFault rules rows.now claim.now.filter steps) }
 {
     let wanted = &claim.filter;
@@ -249,8 +244,75 @@ fn answer<'p>(
     }
 }
 
+// Whether it is so of everybody only where it is of each user whom a line names.
+fn is_of_all(claim: &Claim) -> bool
+    ensures { result ≡ is_of_all (claim_view claim.now) }
+{
+    match (claim.whom, claim.holds) {
+        (Whom::Anyone, Holds::Every) => true,
+        (Whom::Anyone, Holds::Never) => true,
+        _ => false,
+    }
+}
+
+// Whether the user with this name, whom a line names, is one of these.
+fn is_named_one(name: &str, whom: &Whom) -> bool
+    ensures { result ≡ is_named_one name.now (whom_view whom.now) }
+{
+    match whom {
+        Whom::Anyone => true,
+        Whom::User(other) => name == *other,
+        _ => false,
+    }
+}
+
+fn is_excepted(name: &str, others: &[Whom]) -> bool
+    ensures { result ≡ is_excepted name.now others.now }
+{
+    others.iter().any(|whom| is_named_one(name, whom))
+}
+
+// The first of the users that isn't excepted.
+fn first_meant<'u>(users: &[&'u str], others: &[Whom]) -> Option<&'u str>
+    ensures none { IfNone result (list_all (λ u. is_excepted u.now others.now) users.now ≡ true) }
+    ensures some { IfSome result (λ user. (has_text users.now user.now ≡ true)
+        × (is_excepted user.now others.now ≡ false)) }
+{
+    for name in users {
+        if !is_excepted(*name, others) {
+            return Some(*name);
+        }
+    }
+    None
+}
+
+// A user whom the claim means and a line names, and about whom nothing is asked.
+fn left_out(
+    alloc: Global,
+    rules: Rules,
+    rows: &[Row],
+    claim: &Claim,
+    others: &[Whom],
+) -> Result<Option<String>, AllocError>
+    requires { excepted (claim_view claim.now).except ≡ map whom_view others.now }
+    ensures none { IfOk result (λ user. IfNone user (LeavesNoneOut rules rows.now
+        (claim_view claim.now))) }
+    ensures some { IfOk result (λ user. IfSome user (λ name. is_left_out rules (row_views rows.now)
+        (claim_view claim.now) (string_bytes name) ≡ true)) }
+{
+    if !is_of_all(claim) {
+        return Ok(None);
+    }
+    let users = unasked_users(alloc, rules, rows)?;
+    match first_meant(&users, others) {
+        Some(name) => Ok(Some(String::from_str(alloc, name)?)),
+        None => Ok(None),
+    }
+}
+
 /// Whether by these rules the list keeps to the claim. By mosquitto's rules a claim isn't about clients whose id or user
-/// name holds `/`, `+` or `#`; of one about such a user alone it is said that nothing is asked.
+/// name holds `/`, `+` or `#`; of one about such a user alone it is said that nothing is asked, and
+/// of one that means such a user whom a line names, that it holds but for that user.
 ///
 /// So many steps are given to a comparison of the list with one of one row. Where they don't
 /// suffice the question is given up.
@@ -271,5 +333,12 @@ pub fn judge_claim<'p>(
     if !has_short_levels(claim.filter.text()) {
         return Err(WhoFault::Filter);
     }
-    answer(alloc, rules, rows, claim, &others, steps)
+    let judgement = answer(alloc, rules, rows, claim, &others, steps)?;
+    if !matches!(judgement, Judgement::Holds) {
+        return Ok(judgement);
+    }
+    match left_out(alloc, rules, rows, claim, &others)? {
+        Some(user) => Ok(Judgement::LeavesOut(user)),
+        None => Ok(Judgement::Holds),
+    }
 }
