@@ -1,5 +1,6 @@
 //! Whether a client with any id can be sent something, in words and as JSON.
 use crate::asked_client::{AskedClient, add_client};
+use crate::escape::{Escape, shown_lines};
 use crate::json::{Datum, add_object};
 use crate::lines::add_line;
 use crate::list::ListText;
@@ -76,8 +77,8 @@ pub fn any_text(
     let mut text = String::new(alloc);
     if json {
         add_json(alloc, &mut text, list, about, found)?;
-    } else {
-        add_words(alloc, &mut text, list, about, found)?;
+        return Ok(text);
     }
-    Ok(text)
+    add_words(alloc, &mut text, list, about, found)?;
+    shown_lines(alloc, text.as_str(), Escape::Words)
 }

@@ -1,5 +1,6 @@
 //! A table of what changes, in words.
 use crate::deciding::Side;
+use crate::escape::{Escape, shown_lines};
 use crate::table::{add_cell, widened};
 use crate::who::add_who;
 use mq_acl::Direction;
@@ -8,7 +9,7 @@ use std::alloc::{AllocError, Global};
 
 /// What changes for some clients, as it is shown.
 pub struct ChangeRow<'a> {
-    /// The clients.
+    /// The clients, as `group_text` shows them.
     pub who: String,
     /// Whether it is gained or lost.
     pub way: Way,
@@ -97,7 +98,24 @@ fn add_below(text: &mut String, place: &str, words: &str, width: usize) -> Resul
     text.push('\n')
 }
 
+// What stands behind the access: the topic, and below it what decides, and the publishes.
+fn topic_words(alloc: Global, row: &ChangeRow<'_>, widths: Widths) -> Result<String, AllocError> {
+    let is_example = row.sides.iter().all(|side| side.may_have_several());
+    let topic = row.topic.as_str();
+    let mut text = String::from_str(alloc, if is_example { "for example " } else { "" })?;
+    writeln!(text, "{topic}")?;
+    for side in &row.sides {
+        add_below(&mut text, side.place.as_str(), side.words, widths.place)?;
+    }
+    if let Some((file, words)) = &row.publishes {
+        add_below(&mut text, *file, words.as_str(), widths.place)?;
+    }
+    Ok(text)
+}
+
+// What comes from lists and scripts is shown as such before colours come in.
 fn add_row(
+    alloc: Global,
     text: &mut String,
     row: &ChangeRow<'_>,
     widths: Widths,
@@ -105,17 +123,9 @@ fn add_row(
 ) -> Result<(), AllocError> {
     text.push_str("  ")?;
     add_access(text, row, widths.access, coloured)?;
-    let is_example = row.sides.iter().all(|side| side.may_have_several());
-    text.push_str(if is_example { "for example " } else { "" })?;
-    let topic = row.topic.as_str();
-    writeln!(text, "{topic}")?;
-    for side in &row.sides {
-        add_below(text, side.place.as_str(), side.words, widths.place)?;
-    }
-    match &row.publishes {
-        Some((file, words)) => add_below(text, *file, words.as_str(), widths.place),
-        None => Ok(()),
-    }
+    let words = topic_words(alloc, row, widths)?;
+    let shown = shown_lines(alloc, words.as_str(), Escape::Words)?;
+    text.push_str(shown.as_str())
 }
 
 /// The rows, each behind a line that names its clients; what is gained is green and what is lost
@@ -130,7 +140,7 @@ pub fn change_table(
     let mut who = "";
     for row in rows {
         who = add_who(&mut text, who, row.who.as_str())?;
-        add_row(&mut text, row, widths, coloured)?;
+        add_row(alloc, &mut text, row, widths, coloured)?;
     }
     Ok(text)
 }

@@ -1,8 +1,10 @@
 //! Where two lists differ, in words and as JSON.
 use crate::change_rows::{ChangeRow, change_table};
 use crate::deciding::decision;
+use crate::escape::{Escape, shown_lines};
 use crate::json::{Datum, add_object};
 use crate::list::{Lines, ListText, lines_of};
+use crate::not_asked::{add_not_asked, add_not_asked_json};
 use crate::placeholders::shown_topic;
 use crate::published::{ScriptTraffic, add_counts, add_pattern, publishes_text};
 use crate::who::group_text;
@@ -43,6 +45,8 @@ pub struct Scope<'a> {
     pub only: Option<Way>,
     /// Whether client ids and user names with `/`, `+` or `#` are left out.
     pub is_limited: bool,
+    /// Users whom lines name, and about whom nothing is asked.
+    pub not_asked: &'a [&'a str],
     /// What the publishes of a script are counted by, if they are.
     pub traffic: Option<ComparedTraffic<'a>>,
     /// Whether what is gained is green, and what is lost red.
@@ -120,6 +124,7 @@ fn json_lines(
     for difference in differences {
         add_json(alloc, &mut text, scope, old, new, difference)?;
     }
+    add_not_asked_json(alloc, &mut text, scope.not_asked)?;
     Ok(text)
 }
 
@@ -142,7 +147,16 @@ fn words<'a>(
         Rules::Mosquitto => " by mosquitto's rules",
     };
     writeln!(text, "{count} {what}{whose}")?;
+    add_users(alloc, &mut text, scope)?;
     Ok(text)
+}
+
+// Adds the users about whom nothing is asked.
+fn add_users(alloc: Global, text: &mut String, scope: Scope<'_>) -> Result<(), AllocError> {
+    let mut users = String::new(alloc);
+    add_not_asked(&mut users, scope.not_asked)?;
+    let shown = shown_lines(alloc, users.as_str(), Escape::Words)?;
+    text.push_str(shown.as_str())
 }
 
 // Adds that the lists allow the same, or that one of them allows nothing that the other doesn't.
@@ -169,6 +183,8 @@ fn none_text(alloc: Global, scope: Scope<'_>, old: &str, new: &str) -> Result<St
         text,
         ", on {every} topic, to {every} client id and user name{which} a broker can have"
     )?;
+    let mut text = shown_lines(alloc, text.as_str(), Escape::Words)?;
+    add_users(alloc, &mut text, scope)?;
     Ok(text)
 }
 

@@ -24,10 +24,15 @@ impl Drop for Side<'_> {
     }
 }
 
+/// Whether there is a wildcard in a filter, or in the line that it stands in: it may match several topics.
+pub fn has_wildcard(filter: &str) -> bool {
+    filter.contains('+') || filter.contains('#')
+}
+
 impl Side<'_> {
     // Whether it decides about several topics, or is no line.
     pub(crate) fn may_have_several(&self) -> bool {
-        !self.is_line || self.words.contains('+') || self.words.contains('#')
+        !self.is_line || has_wildcard(self.words)
     }
 }
 

@@ -1,5 +1,6 @@
 //! Which lines decide whether a client may read and write a topic, in words and as JSON.
 use crate::asked_client::{AskedClient, add_client};
+use crate::escape::{Escape, shown_lines};
 use crate::json::{Datum, add_object};
 use crate::lines::add_line;
 use crate::list::ListText;
@@ -91,5 +92,5 @@ pub fn explanation_text(
     add_asked(&mut text, asked)?;
     add_words(&mut text, list, "read", reading)?;
     add_words(&mut text, list, "write", writing)?;
-    Ok(text)
+    shown_lines(alloc, text.as_str(), Escape::Words)
 }

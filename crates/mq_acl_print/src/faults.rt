@@ -24,8 +24,21 @@ fn topic_in(rules: Rules, line: &str) -> &str {
     }
 }
 
+// So many characters of an unknown word are shown: a file may hold what is secret.
+const SHOWN: usize = 20;
+
+// The beginning of a word that is longer, else all of it.
+fn beginning(word: &str) -> &str {
+    match word.char_indices().nth(SHOWN) {
+        Some((end, _)) => word.get(..end).unwrap_or(""),
+        None => word,
+    }
+}
+
 fn unknown(alloc: Global, what: &str, word: &str, expected: &str) -> Result<String, AllocError> {
-    format!(in alloc; "unknown {what} {word:?}: expected {expected}")
+    let shown = beginning(word);
+    let more = if shown.len() < word.len() { ".." } else { "" };
+    format!(in alloc; "unknown {what} {shown:?}{more}: expected {expected}")
 }
 
 /// What is wrong with this line by these rules.

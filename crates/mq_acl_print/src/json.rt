@@ -1,4 +1,5 @@
 //! JSON objects, one a line.
+use crate::escape::{Escape, shown_lines};
 use crate::list::Line;
 use serde_json::{Map, Value};
 use std::alloc::{AllocError, Global};
@@ -127,6 +128,7 @@ pub fn add_object(
         put(alloc, &mut members, name, value)?;
     }
     let line = Value::Object(members).to_string(alloc)?;
-    text.push_str(line.as_str())?;
+    let shown = shown_lines(alloc, line.as_str(), Escape::Json)?;
+    text.push_str(shown.as_str())?;
     text.push('\n')
 }

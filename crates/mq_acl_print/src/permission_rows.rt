@@ -53,27 +53,44 @@ impl Drop for PermissionRow<'_> {
     }
 }
 
+// The topic, as an example if the line decides about several that are asked about.
+fn topic_words(
+    alloc: Global,
+    several: bool,
+    side: &Side<'_>,
+    shown: &Difference,
+) -> Result<String, AllocError> {
+    let topic = shown_topic(alloc, shown)?;
+    if several && side.may_have_several() {
+        return format!(in alloc; "for example {topic}");
+    }
+    Ok(topic)
+}
+
 fn denial_row<'a>(
     alloc: Global,
     list: Lines<'a, 'a, 'a>,
+    several: bool,
     denied: &'a Difference,
 ) -> Result<DenialRow<'a>, AllocError> {
-    let words = shown_topic(alloc, denied)?;
+    let side = decision(alloc, list, denied.old_reason)?;
+    let words = topic_words(alloc, several, &side, denied)?;
     Ok(DenialRow {
         topic: format!(in alloc; "but not {words}")?,
-        side: decision(alloc, list, denied.old_reason)?,
+        side,
     })
 }
 
 fn denial_rows<'a>(
     alloc: Global,
     list: Lines<'a, 'a, 'a>,
+    several: bool,
     refused: &[&'a Difference],
 ) -> Result<Vec<DenialRow<'a>>, AllocError> {
     let mut rows = Vec::new(alloc);
     for other in refused {
         if matches!(other.old_reason, Reason::Deny(_)) {
-            rows.push(denial_row(alloc, list, other)?)?;
+            rows.push(denial_row(alloc, list, several, other)?)?;
         }
     }
     Ok(rows)
@@ -82,13 +99,15 @@ fn denial_rows<'a>(
 fn row_of<'a>(
     alloc: Global,
     list: Lines<'a, 'a, 'a>,
+    several: bool,
     granted: &'a Difference,
     refused: &[&'a Difference],
 ) -> Result<PermissionRow<'a>, AllocError> {
+    let side = decision(alloc, list, granted.old_reason)?;
     let topic = if refused.is_empty() {
         String::from_str(alloc, "every topic")?
     } else {
-        shown_topic(alloc, granted)?
+        topic_words(alloc, several, &side, granted)?
     };
     Ok(PermissionRow {
         all: vec![in alloc; granted]?,
@@ -98,8 +117,8 @@ fn row_of<'a>(
             Direction::Writing => "may write",
         },
         topic,
-        side: decision(alloc, list, granted.old_reason)?,
-        denials: denial_rows(alloc, list, refused)?,
+        side,
+        denials: denial_rows(alloc, list, several, refused)?,
     })
 }
 
@@ -142,15 +161,17 @@ impl<'a> PermissionRows<'a> {
         }
     }
 
-    /// Adds what a line allows, with what isn't allowed of the same class and direction.
+    /// Adds what a line allows, with what isn't allowed of the same class and direction, where
+    /// several topics are asked about, or one.
     pub(crate) fn add(
         &mut self,
         alloc: Global,
         list: Lines<'a, 'a, 'a>,
+        several: bool,
         granted: &'a Difference,
         refused: &[&'a Difference],
     ) -> Result<(), AllocError> {
-        let row = row_of(alloc, list, granted, refused)?;
+        let row = row_of(alloc, list, several, granted, refused)?;
         let key = key_of(alloc, &row)?;
         let place = self.places.get(key.as_str()).copied();
         if let Some(place) = place {

@@ -1,7 +1,9 @@
 //! Who may read or write the topics that a filter matches, in words and as JSON.
-use crate::deciding::Side;
+use crate::deciding::{Side, has_wildcard};
+use crate::escape::{Escape, shown_lines};
 use crate::json::{Datum, Exception, add_object};
 use crate::list::{Lines, ListText, lines_of};
+use crate::not_asked::{add_not_asked, add_not_asked_json};
 use crate::permission_rows::{PermissionRow, PermissionRows};
 use crate::published::{ScriptTraffic, add_counts, add_pattern, publishes_text};
 use crate::refusals::Refusals;
@@ -51,6 +53,8 @@ pub struct Asked<'a> {
     pub access: Option<Direction>,
     /// Whether some users are left out.
     pub of_others: bool,
+    /// Users whom lines name, who aren't left out, and about whom nothing is asked.
+    pub not_asked: &'a [&'a str],
     /// What the publishes of a script are counted by, if they are.
     pub traffic: Option<ListTraffic<'a>>,
 }
@@ -128,19 +132,22 @@ fn json_lines<'a>(
         let refused = refusals.beside(alloc, one)?;
         add_json(alloc, &mut text, asked, list, one, &refused)?;
     }
+    add_not_asked_json(alloc, &mut text, asked.not_asked)?;
     Ok(text)
 }
 
 fn rows_of<'a>(
     alloc: Global,
     list: Lines<'a, 'a, 'a>,
+    asked: Asked<'a>,
     granted: &'a [Difference],
     refusals: &Refusals<'a>,
 ) -> Result<PermissionRows<'a>, AllocError> {
+    let several = has_wildcard(asked.filter);
     let mut rows = PermissionRows::new(alloc);
     for one in granted {
         let refused = refusals.beside(alloc, one)?;
-        rows.add(alloc, list, one, &refused)?;
+        rows.add(alloc, list, several, one, &refused)?;
     }
     Ok(rows)
 }
@@ -226,10 +233,15 @@ fn table(
     Ok(text)
 }
 
-// That none may.
+// That none may; where nothing is asked about some, that none of the others may.
 fn nobody(alloc: Global, asked: Asked<'_>) -> Result<String, AllocError> {
     let filter = asked.filter;
-    let other = if asked.of_others { "else " } else { "" };
+    let other = match (asked.of_others, asked.not_asked.is_empty()) {
+        (false, true) => "",
+        (true, true) => "else ",
+        (false, false) => "who is asked about ",
+        (true, false) => "else who is asked about ",
+    };
     let access = match asked.access {
         Some(direction) => access_word(direction),
         None => "read or write",
@@ -263,12 +275,15 @@ fn text_of<'a>(
     if json {
         return json_lines(alloc, asked, list, granted, &refusals);
     }
-    if granted.is_empty() {
-        return nobody(alloc, asked);
-    }
-    let mut rows = rows_of(alloc, list, granted, &refusals)?;
-    rows.name_all(alloc)?;
-    table(alloc, asked, rows.as_slice())
+    let mut text = if granted.is_empty() {
+        nobody(alloc, asked)?
+    } else {
+        let mut rows = rows_of(alloc, list, asked, granted, &refusals)?;
+        rows.name_all(alloc)?;
+        table(alloc, asked, rows.as_slice())?
+    };
+    add_not_asked(&mut text, asked.not_asked)?;
+    shown_lines(alloc, text.as_str(), Escape::Words)
 }
 
 /// Who may by the list, as it was asked: as a table of what is shown alike, or as JSON, one object

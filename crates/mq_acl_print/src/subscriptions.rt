@@ -1,19 +1,20 @@
 //! The subscriptions of a script that can receive nothing, in words and as JSON.
+use crate::escape::shown_name;
 use crate::json::{Datum, add_object};
 use crate::table::{add_cell, widened};
 use mq_reach::{Counts, Findings, Subscription};
 use std::alloc::{AllocError, Global};
 
 // A subscription in words.
-struct SubscriptionRow<'a> {
+struct SubscriptionRow {
     place: String,
-    client: &'a str,
+    client: String,
     user: String,
-    filter: &'a str,
+    filter: String,
 }
 
 // Opaque to callers' proofs: one step, and not one for each field (docs/explanation/gate.md).
-impl Drop for SubscriptionRow<'_> {
+impl Drop for SubscriptionRow {
     fn drop(self) {
         let SubscriptionRow {
             place: _,
@@ -31,25 +32,26 @@ struct Widths {
     user: usize,
 }
 
-fn row_of<'a>(
+fn row_of(
     alloc: Global,
     script: &str,
-    subscription: &'a Subscription,
-) -> Result<SubscriptionRow<'a>, AllocError> {
+    subscription: &Subscription,
+) -> Result<SubscriptionRow, AllocError> {
     let line = subscription.line;
     let user = match &subscription.user {
         Some(user) => format!(in alloc; "user {user}")?,
         None => String::from_str(alloc, "no user name")?,
     };
+    let place = format!(in alloc; "{script}:{line}")?;
     Ok(SubscriptionRow {
-        place: format!(in alloc; "{script}:{line}")?,
-        client: subscription.client.as_str(),
-        user,
-        filter: subscription.filter.as_str(),
+        place: shown_name(alloc, place.as_str())?,
+        client: shown_name(alloc, subscription.client.as_str())?,
+        user: shown_name(alloc, user.as_str())?,
+        filter: shown_name(alloc, subscription.filter.as_str())?,
     })
 }
 
-fn widths_of(rows: &[SubscriptionRow<'_>]) -> Widths {
+fn widths_of(rows: &[SubscriptionRow]) -> Widths {
     let mut widths = Widths {
         place: 0,
         client: 0,
@@ -57,17 +59,17 @@ fn widths_of(rows: &[SubscriptionRow<'_>]) -> Widths {
     };
     for row in rows {
         widths.place = widened(widths.place, row.place.as_str());
-        widths.client = widened(widths.client, row.client);
+        widths.client = widened(widths.client, row.client.as_str());
         widths.user = widened(widths.user, row.user.as_str());
     }
     widths
 }
 
-fn add_row(text: &mut String, row: &SubscriptionRow<'_>, widths: Widths) -> Result<(), AllocError> {
+fn add_row(text: &mut String, row: &SubscriptionRow, widths: Widths) -> Result<(), AllocError> {
     add_cell(text, row.place.as_str(), widths.place)?;
-    add_cell(text, row.client, widths.client)?;
+    add_cell(text, row.client.as_str(), widths.client)?;
     add_cell(text, row.user.as_str(), widths.user)?;
-    text.push_str(row.filter)?;
+    text.push_str(row.filter.as_str())?;
     text.push('\n')
 }
 
@@ -93,7 +95,8 @@ fn table(alloc: Global, script: &str, findings: &Findings) -> Result<String, All
     for row in &rows {
         add_row(&mut text, row, widths)?;
     }
-    add_faulty(&mut text, script, findings.counts)?;
+    let script = shown_name(alloc, script)?;
+    add_faulty(&mut text, script.as_str(), findings.counts)?;
     let unreached = findings.unreached.len();
     let all = findings.counts.subscriptions;
     writeln!(

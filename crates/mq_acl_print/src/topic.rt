@@ -1,5 +1,6 @@
 //! What a subscription can be sent, in words and as JSON.
 use crate::asked_client::{AskedClient, add_client};
+use crate::escape::{Escape, shown_lines};
 use crate::json::{Datum, add_object};
 use mq_topic::{LevelText, TopicName};
 use std::alloc::{AllocError, Global};
@@ -58,8 +59,8 @@ pub fn topic_text(
     let mut text = String::new(alloc);
     if json {
         add_json(alloc, &mut text, asked.subscription, topic)?;
-    } else {
-        add_words(&mut text, asked, topic)?;
+        return Ok(text);
     }
-    Ok(text)
+    add_words(&mut text, asked, topic)?;
+    shown_lines(alloc, text.as_str(), Escape::Words)
 }

@@ -1,4 +1,5 @@
 //! Whom differences concern.
+use crate::escape::{Escape, shown_lines};
 use crate::placeholders::is_placeholder;
 use mq_differences::{Class, Difference, Group};
 use std::alloc::{AllocError, Global};
@@ -79,14 +80,14 @@ pub(crate) fn add_who<'a>(
     Ok(who)
 }
 
-/// The clients of these, in words.
+/// The clients of these, in words, as they are shown.
 pub fn who_text(alloc: Global, all: &[&Difference]) -> Result<String, AllocError> {
     let mut text = String::new(alloc);
     add_classes(alloc, &mut text, all)?;
-    Ok(text)
+    shown_lines(alloc, text.as_str(), Escape::Words)
 }
 
-/// The clients of a group, in words.
+/// The clients of a group, in words, as they are shown.
 pub fn group_text(alloc: Global, group: &Group) -> Result<String, AllocError> {
     let mut all = vec![in alloc; &group.first]?;
     for other in &group.others {
