@@ -1,10 +1,12 @@
 -- What a list of differences says of two lists.
 use Rattle.std.proofs.Common.{◌≡◌, ◌⊎◌, ◌<◌, ◌++◌, ◌&&◌, suc, length, arith, ℕ, Bool, true, false, not}
 use Rattle.std.proofs.Common.{List, [], ◌∷◌, Option, Some, None, All, refl, sym, ◌∙◌, string_bytes, true≢false}
-use Rattle.std.proofs.Common.{subst, inl, inr}
+use Rattle.std.proofs.Common.{subst, inl, inr, ap, ◌||◌, ◌≢◌}
+use Rattle.std.specs.Borrow.{Bor}
 use Rattle.std.specs.List.{list_any}
 use Rattle.std.proofs.lemmas.Bool.{and_parts, or_cases}
 use Rattle.mq_topic.specs.Texts.{is_name}
+use Rattle.mq_topic.proofs.ByteLemmas.{text_itself}
 use Rattle.mq_acl.specs.AccessLists.{allow_by}
 use Rattle.mq_acl.specs.declared.rules.Rules.{Rules}
 use Rattle.mq_acl.specs.Rows.{AclRow}
@@ -24,7 +26,9 @@ use Rattle.mq_differences.specs.declared.difference.Difference.{Difference}
 use Rattle.mq_differences.specs.declared.way.Way.{Way}
 use Rattle.mq_differences.specs.declared.way.Way.TheVariants.{Gained, Lost}
 use Rattle.mq_who.proofs.ExtentLemmas.{any_weaker}
-use Rattle.mq_acl_answers.specs.Answers.{AreChanges, Differ, IsCompared, NoneChanges, SomeChanges}
+use Rattle.mq_who.specs.Unasked.{has_text, is_not_compared}
+use Rattle.mq_acl_answers.specs.Answers.{AreChanges, Differ, IsCompared, IsTaken, LeavesNoneOut}
+use Rattle.mq_acl_answers.specs.Answers.{LeavesOut, NoneChanges, SomeChanges}
 use Rattle.mq_acl_answers.specs.Answers.{SaysWhetherSame, is_way}
 use Rattle.mq_acl_answers.specs.declared.commands.compare.Changes.{Changes}
 use Rattle.mq_acl_answers.specs.declared.outcome.Outcome.{Outcome}
@@ -145,33 +149,66 @@ none_changes rules way old new all every none client name user direction asked v
     (of_way rules old new way direction client user name) all
     (every way direction client name user id.0 rest.0 rest.1 valid changes)) ∙ none))
 
-shown : (rules : Rules) (only : Option Way) (c : Changes) (old new : List ℕ) (outcome : Outcome)
-    → AreChanges rules old new c
-    → (outcome ≡ Clear → list_any (λ d. is_way only d.way) c.differences.items ≡ false)
-    → (outcome ≡ Remark → list_any (λ d. is_way only d.way) c.differences.items ≡ true)
-    → SaysWhetherSame rules only (row_views c.old.items) (row_views c.new.items) outcome
-shown rules None c old new Clear are none some =
-    are.same (none_shown c.differences.items (none refl))
-shown rules None c old new Remark are none some =
-    differ_of rules c.old.items c.new.items c.differences.items (some refl) are.real
-shown rules (Some way) c old new Clear are none some =
-    none_changes rules way c.old.items c.new.items c.differences.items are.every (none refl)
-shown rules (Some way) c old new Remark are none some =
-    changes_of rules way c.old.items c.new.items c.differences.items (some refl) are.real
+-- ---- users about whom nothing is asked
+-- one of them is
+some_user : (users : List (Bor (List ℕ))) → users ≢ []
+    → (name : List ℕ) × (has_text users name ≡ true)
+some_user [] some = absurd (some refl)
+some_user (user ∷ users) some =
+    (user.now, ap (λ b. b || has_text users user.now) (text_itself user.now))
 
--- whether there is a difference that is asked about shows whether the lists allow the same, or one of them nothing that
--- the other doesn't
+-- whether there is a difference that is asked about, or a user about whom nothing is asked, shows whether the lists allow
+-- the same, or one of them nothing that the other doesn't
+module _ (rules : Rules) (c : Changes) (old new : List ℕ) (are : AreChanges rules old new c)
+    (users : List (Bor (List ℕ)))
+    (is : (name : List ℕ) → has_text users name
+    ≡ is_not_compared rules (row_views c.old.items ++ row_views c.new.items) name) where
+  leaves_none : users ≡ [] → LeavesNoneOut rules (row_views c.old.items) (row_views c.new.items)
+  leaves_none none name = sym (is name) ∙ ap (λ all. has_text all name) none
+
+  leaves_one : users ≢ [] → LeavesOut rules (row_views c.old.items) (row_views c.new.items)
+  leaves_one some =
+      let user = some_user users some in (user.0, sym (is user.0) ∙ user.1)
+
+  pub shown : (only : Option Way) (outcome : Outcome)
+      → (outcome ≡ Clear
+      → (list_any (λ d. is_way only d.way) c.differences.items ≡ false) × (users ≡ []))
+      → (outcome ≡ Remark
+      → (list_any (λ d. is_way only d.way) c.differences.items ≡ true) ⊎ (users ≢ []))
+      → SaysWhetherSame rules only (row_views c.old.items) (row_views c.new.items) outcome
+  shown None Clear none some =
+      (are.same (none_shown c.differences.items (none refl).0), leaves_none (none refl).1)
+  shown (Some way) Clear none some = (
+    none_changes rules way c.old.items c.new.items c.differences.items are.every (none refl).0,
+    leaves_none (none refl).1,
+  )
+  shown None Remark none some = at (some refl)
+    where
+      at : (list_any (λ d. is_way None d.way) c.differences.items ≡ true) ⊎ (users ≢ [])
+          → SaysWhetherSame rules None (row_views c.old.items) (row_views c.new.items) Remark
+      at (inl one) =
+          inl (differ_of rules c.old.items c.new.items c.differences.items one are.real)
+      at (inr user) = inr (leaves_one user)
+  shown (Some way) Remark none some = at (some refl)
+    where
+      at : (list_any (λ d. is_way (Some way) d.way) c.differences.items ≡ true) ⊎ (users ≢ [])
+          → SaysWhetherSame rules (Some way) (row_views c.old.items) (row_views c.new.items) Remark
+      at (inl one) =
+          inl (changes_of rules way c.old.items c.new.items c.differences.items one are.real)
+      at (inr user) = inr (leaves_one user)
+
 pub compared : (rules : Rules) (only : Option Way) (old new : List ℕ) (c : Changes)
-    (outcome : Outcome) → AreChanges rules old new c
-    → (outcome ≡ Clear → list_any (λ d. is_way only d.way) c.differences.items ≡ false)
-    → (outcome ≡ Remark → list_any (λ d. is_way only d.way) c.differences.items ≡ true)
+    (outcome : Outcome) → AreChanges rules old new c → IsTaken old → IsTaken new
+    → SaysWhetherSame rules only (row_views c.old.items) (row_views c.new.items) outcome
     → IsCompared rules only old new outcome
-compared rules only old new c outcome are none some = record {
+compared rules only old new c outcome are old_taken new_taken says = record {
+  old_taken = old_taken;
+  new_taken = new_taken;
   old_rows = row_views c.old.items;
   new_rows = row_views c.new.items;
   old_read = are.old_rows.read;
   new_read = are.new_rows.read;
-  outcome_of = shown rules only c old new outcome are none some;
+  outcome_of = says;
 }
 
 -- lists of which no difference is shown allow the same

@@ -1,148 +1,83 @@
 -- What the remarks on a list say of it.
-use Rattle.std.proofs.Common.{◌≡◌, ◌≢◌, ◌⊎◌, ◌∙◌, ◌<◌, ℕ, zero, suc, length, arith, Bool, true, false}
-use Rattle.std.proofs.Common.{true≢false, inl, inr, List, [], ◌∷◌, Option, Some, None, refl, sym}
-use Rattle.std.proofs.Common.{ap, subst}
-use Rattle.std.specs.Prelude.{◌||◌, slice_index_or, ⊤}
-use Rattle.mq_acl.specs.declared.row.Row.{Row}
+use Rattle.std.proofs.Common.{◌≡◌, ◌≢◌, ◌⊎◌, ◌∙◌, ℕ, Bool, true, false}
+use Rattle.std.proofs.Common.{true≢false, inl, inr, List, [], ◌∷◌, refl, sym}
+use Rattle.std.proofs.Common.{ap}
+use Rattle.std.specs.Prelude.{◌||◌}
+use Rattle.mq_acl.specs.Lines.{lines}
+use Rattle.mq_acl.specs.Rows.{entries_by, faults_by, rows_in, unless_faulty}
+use Rattle.mq_acl.specs.declared.fault.AclFault.{AclFault}
 use Rattle.mq_acl.specs.declared.rules.Rules.{Rules}
-use Rattle.mq_lint.specs.Needless.{AreNeedless, IsKind, remarks_of_kinds}
-use Rattle.mq_lint.specs.Remarks.{remarks_of}
+use Rattle.mq_lint.specs.Remarks.{faults_shown}
 use Rattle.mq_lint.specs.declared.remark.Remark.{Remark}
 use Rattle.mq_lint.specs.declared.remark.RemarkKind.{RemarkKind}
 use Rattle.mq_lint.specs.declared.remark.RemarkKind.TheVariants as kinds_of
-use Rattle.mq_acl_answers.specs.Lint.{AreRemarks, HasNeedless, IsLinted, IsNeedlessIn, IsRight}
-use Rattle.mq_acl_answers.specs.Lint.{has_fault, has_needless, matters}
+use Rattle.mq_acl_answers.specs.Failures.{IsFaultyLine}
+use Rattle.mq_acl_answers.specs.Lint.{AreRemarks, HasNeedless, IsLinted, IsNeedlessIn}
+use Rattle.mq_acl_answers.specs.Lint.{has_fault, has_needless, is_fault}
 use Rattle.mq_acl_answers.specs.declared.outcome.Outcome.{Outcome}
 use Rattle.mq_acl_answers.specs.declared.outcome.Outcome.TheVariants.{Clear, Remark as Shown}
 use Rattle.mq_acl_answers.specs.declared.commands.lint.Remarks.{Remarks}
 
--- nothing is shown of a row, or that it denies nothing
-abbrev IsQuiet : Option RemarkKind → Type 0
-IsQuiet None = ⊤
-IsQuiet (Some kind) = matters kind ≡ false
-
-first_false : (a b : Bool) → (a || b) ≡ false → (a ≡ false) × (b ≡ false)
-first_false true b e = absurd (true≢false e)
-first_false false b e = (refl, e)
-
--- of no row more is shown where no remark shows more
-all_quiet : (rows : List Row) (kinds : List (Option RemarkKind)) → length kinds ≡ length rows
-    → has_needless (remarks_of_kinds rows kinds) ≡ false
-    → (place : ℕ) (k : Option RemarkKind) → place < length rows
-    → IsQuiet (slice_index_or kinds place k)
-all_quiet [] kinds e none place k low = absurd (let bad : ⊥ = omega arith in bad)
-all_quiet (r ∷ rs) [] e none place k low = absurd (let bad : ⊥ = omega arith in bad)
-all_quiet (r ∷ rs) (None ∷ ks) e none zero k low = tt
-all_quiet (r ∷ rs) (None ∷ ks) e none (suc place) k low =
-    all_quiet rs ks (let less : length ks ≡ length rs = omega arith in less) none place k
-    (let low : place < length rs = omega arith in low)
-all_quiet (r ∷ rs) (Some kind ∷ ks) e none zero k low =
-    (first_false (matters kind) (has_needless (remarks_of_kinds rs ks)) none).0
-all_quiet (r ∷ rs) (Some kind ∷ ks) e none (suc place) k low =
-    all_quiet rs ks (let less : length ks ≡ length rs = omega arith in less)
-    (first_false (matters kind) (has_needless (remarks_of_kinds rs ks)) none).1 place k
-    (let low : place < length rs = omega arith in low)
-
-right_of : (rules : Rules) (rows : List Row) (place : ℕ) (row : Row) (kind : Option RemarkKind) → IsQuiet kind
-    → IsKind rules rows place row kind → IsRight rules rows place row
-right_of rules rows place row None quiet is = inl is
-right_of rules rows place row (Some kinds_of.DeniesNothing) quiet is = inr is
-right_of rules rows place row (Some (kinds_of.Fault kind)) quiet is = absurd (true≢false quiet)
-right_of rules rows place row (Some kinds_of.NoMark) quiet is = absurd (true≢false quiet)
-right_of rules rows place row (Some kinds_of.IndentedComment) quiet is = absurd (true≢false quiet)
-right_of rules rows place row (Some kinds_of.Tab) quiet is = absurd (true≢false quiet)
-right_of rules rows place row (Some (kinds_of.Repeats line)) quiet is = absurd (true≢false quiet)
-right_of rules rows place row (Some (kinds_of.Needless by)) quiet is = absurd (true≢false quiet)
-
-all_right : (rules : Rules) (rows : List Row) (shown : List Remark) → has_needless shown ≡ false
-    → AreNeedless rules rows shown → (place : ℕ) (d : Row) → place < length rows
-    → IsRight rules rows place (slice_index_or rows place d)
-all_right rules rows shown none are place d low =
-    right_of rules rows place (slice_index_or rows place d) (slice_index_or are.kinds place None)
-    (all_quiet rows are.kinds are.all (ap has_needless (sym are.remarks) ∙ none) place None low)
-    (are.each place d None low)
-
--- more is shown of the row at a place
-record ShowsMore (rows : List Row) (kinds : List (Option RemarkKind)) : Type 0 where
-  place : ℕ
-  row : Row
-  kind : RemarkKind
-  low : place < length rows
-  row_is : (d : Row) → row ≡ slice_index_or rows place d
-  kind_is : (k : Option RemarkKind) → slice_index_or kinds place k ≡ Some kind
-  counts : matters kind ≡ true
-
-behind : (r : Row) (rows : List Row) (k : Option RemarkKind) (kinds : List (Option RemarkKind))
-    → ShowsMore rows kinds → ShowsMore (r ∷ rows) (k ∷ kinds)
-behind r rows k kinds t = record {
-  place = suc t.place;
-  row = t.row;
-  kind = t.kind;
-  low = let less = t.low in let low : suc t.place < suc (length rows) = omega arith in low;
-  row_is = t.row_is;
-  kind_is = t.kind_is;
-  counts = t.counts;
+needless_of : {rules : Rules} {text : List ℕ} {shown : List Remark} → IsNeedlessIn rules text shown
+    → has_needless shown ≡ true → HasNeedless rules text
+needless_of {rules} {text} {shown} is some = record {
+  rows = is.rows;
+  are_rows = is.are_rows;
+  shown = shown;
+  are_shown = is.shown_of;
+  counts = some;
 }
 
-shows_more : (rows : List Row) (kinds : List (Option RemarkKind))
-    → has_needless (remarks_of_kinds rows kinds) ≡ true → ShowsMore rows kinds
-shows_more [] kinds some = absurd (true≢false (sym some))
-shows_more (r ∷ rs) [] some = absurd (true≢false (sym some))
-shows_more (r ∷ rs) (None ∷ ks) some = behind r rs None ks (shows_more rs ks some)
-shows_more (r ∷ rs) (Some kind ∷ ks) some =
-    go (matters kind) refl (λ rest. shows_more rs ks rest)
-  where
-    go : (b : Bool) → matters kind ≡ b
-        → (has_needless (remarks_of_kinds rs ks) ≡ true → ShowsMore rs ks)
-        → ShowsMore (r ∷ rs) (Some kind ∷ ks)
-    go true counts more = record {
-      place = 0;
-      row = r;
-      kind = kind;
-      low = let low : 0 < suc (length rs) = omega arith in low;
-      row_is = λ d. refl;
-      kind_is = λ k. refl;
-      counts = counts;
-    }
-    go false quiet more = behind r rs (Some kind) ks (more (rw quiet at some))
-
-needless_of : (rules : Rules) (text : List ℕ) (shown : List Remark) → has_needless shown ≡ true
-    → IsNeedlessIn rules text shown → HasNeedless rules text
-needless_of rules text shown some is =
-    let more = shows_more is.rows is.shown_of.kinds (ap has_needless
-    (sym is.shown_of.remarks) ∙ some)
-    in
-    record {
-      rows = is.rows;
-      are_rows = is.are_rows;
-      place = more.place;
-      row = more.row;
-      kind = more.kind;
-      in_range = more.low;
-      is = more.row_is more.row;
-      shown = subst (IsKind rules is.rows more.place more.row) (more.kind_is None)
-          (subst (λ row. IsKind rules is.rows more.place row
-          (slice_index_or is.shown_of.kinds more.place None)) (sym (more.row_is more.row))
-          (is.shown_of.each more.place more.row None more.low));
-      counts = more.counts;
-    }
-
 odd_or_needless : (rules : Rules) (text : List ℕ) (r : Remarks) → AreRemarks rules text r
-    → (r.odd.items ≢ []) ⊎ (has_needless r.needless.items ≡ true)
-    → (remarks_of rules text ≢ []) ⊎ HasNeedless rules text
+    → (r.odd.items ≢ []) ⊎ (has_needless r.needless.items ≡ true) ⊎ (r.is_empty ≡ true)
+    → IsLinted rules text Shown
 odd_or_needless rules text r are (inl odd) = inl (λ e. odd (are.odd ∙ e))
-odd_or_needless rules text r are (inr some) = go (has_fault r.odd.items) refl
+odd_or_needless rules text r are (inr (inr empty)) = inr (inr (are.empty empty))
+odd_or_needless rules text r are (inr (inl some)) = go (has_fault r.odd.items) refl
   where
-    go : (b : Bool) → has_fault r.odd.items ≡ b → (remarks_of rules text ≢ []) ⊎ HasNeedless rules text
+    go : (b : Bool) → has_fault r.odd.items ≡ b → IsLinted rules text Shown
     go true faulty =
         absurd (true≢false (sym some ∙ ap has_needless (are.none faulty)))
-    go false clean = inr (needless_of rules text r.needless.items some (are.all clean))
+    go false clean = inr (inl (needless_of (are.all clean) some))
+
+-- ---- a text with a fault
+first_fault : (odd : List Remark) → has_fault odd ≡ true
+    → (f : AclFault) × ((rest : List AclFault) × (faults_shown odd ≡ f ∷ rest))
+first_fault [] e = absurd (true≢false (sym e))
+first_fault (r ∷ rs) e = at r.kind e (first_fault rs)
+  where
+    at : (kind : RemarkKind) → (is_fault kind || has_fault rs) ≡ true
+        → (has_fault rs ≡ true → (f : AclFault) × ((rest : List AclFault)
+        × (faults_shown rs ≡ f ∷ rest)))
+        → (f : AclFault) × ((rest : List AclFault)
+        × (faults_shown (record { line = r.line; kind = kind } ∷ rs) ≡ f ∷ rest))
+    at (kinds_of.Fault kind) e behind =
+        (record { line = r.line; kind = kind }, (faults_shown rs, refl))
+    at kinds_of.NoMark e behind = behind e
+    at kinds_of.IndentedComment e behind = behind e
+    at kinds_of.Tab e behind = behind e
+    at kinds_of.Hidden e behind = behind e
+    at (kinds_of.Repeats line) e behind = behind e
+    at (kinds_of.DeniesNothing ids) e behind = behind e
+    at (kinds_of.Needless ids by) e behind = behind e
+
+-- such a text has a first faulty line
+pub faulty_of : (rules : Rules) (text : List ℕ) (odd : List Remark) → has_fault odd ≡ true
+    → faults_shown odd ≡ faults_by rules (lines text)
+    → (line : ℕ) × IsFaultyLine rules text line
+faulty_of rules text odd some same =
+    let first = first_fault odd some in
+    let fails = ap (λ faults. unless_faulty faults (rows_in (entries_by rules (lines text))))
+    (sym same ∙ first.1.1) in
+    (first.0.line, (first.0, fails, refl))
 
 -- the remarks on a text show how it is linted
 pub linted : (rules : Rules) (text : List ℕ) (r : Remarks) (outcome : Outcome)
     → AreRemarks rules text r
-    → (outcome ≡ Clear → (r.odd.items ≡ []) × (has_needless r.needless.items ≡ false))
-    → (outcome ≡ Shown → (r.odd.items ≢ []) ⊎ (has_needless r.needless.items ≡ true))
+    → (outcome ≡ Clear → (r.odd.items ≡ []) × (has_needless r.needless.items ≡ false)
+    × (r.is_empty ≡ false))
+    → (outcome ≡ Shown → (r.odd.items ≢ []) ⊎ (has_needless r.needless.items ≡ true)
+    ⊎ (r.is_empty ≡ true))
     → IsLinted rules text outcome
 linted rules text r Clear are none some =
     let nothing = none refl in
@@ -151,6 +86,9 @@ linted rules text r Clear are none some =
       even = sym are.odd ∙ nothing.0;
       rows = is.rows;
       are_rows = is.are_rows;
-      right = all_right rules is.rows r.needless.items nothing.1 is.shown_of;
+      some = are.full (ap has_fault nothing.0) nothing.2;
+      shown = r.needless.items;
+      are_shown = is.shown_of;
+      quiet = nothing.1;
     }
 linted rules text r Shown are none some = odd_or_needless rules text r are (some refl)

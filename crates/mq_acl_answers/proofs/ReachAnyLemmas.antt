@@ -1,6 +1,6 @@
 -- Whether a client with any id may.
-use Rattle.std.proofs.Common.{◌≡◌, ℕ, Bool, true, false, not, ◌&&◌, List, Option, Some, None, refl, ap}
-use Rattle.std.proofs.Common.{subst, bytes_eq, string_bytes}
+use Rattle.std.proofs.Common.{◌≡◌, ℕ, true, false, not, ◌&&◌, List, Option, Some, None, refl, ap}
+use Rattle.std.proofs.Common.{subst, string_bytes}
 use Rattle.std.specs.List.{list_any}
 use Rattle.std.proofs.lemmas.Bool.{and_parts}
 use Rattle.mq_topic.proofs.ByteLemmas.{text_is, text_itself}

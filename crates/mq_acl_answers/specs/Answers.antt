@@ -1,5 +1,5 @@
 -- What is true of the lists that are asked about.
-use Rattle.std.specs.Prelude.{◌≡◌, ◌≢◌, ◌++◌, ℕ, Bool, List, [], All, IsTrue, true, false}
+use Rattle.std.specs.Prelude.{◌≡◌, ◌≢◌, ◌⊎◌, ◌++◌, ℕ, Bool, List, [], All, IsTrue, true, false}
 use Rattle.std.specs.Prelude.{Option, Some, None, Ok}
 use Rattle.std.specs.Option.{option_map}
 use Rattle.mq_topic.specs.Levels.{levels}
@@ -7,6 +7,7 @@ use Rattle.mq_topic.specs.Matching.{matches}
 use Rattle.mq_topic.specs.Texts.{filter_part, is_name}
 use Rattle.mq_acl.specs.AccessLists.{allow_by}
 use Rattle.mq_acl.specs.declared.rules.Rules.{Rules}
+use Rattle.mq_acl.specs.declared.rules.Rules.TheVariants.{Mosquitto}
 use Rattle.mq_acl.specs.Rows.{AclRow, rows_by, row_lines_by}
 use Rattle.mq_acl.specs.Views.{row_views, line_views}
 use Rattle.mq_acl.specs.declared.access.Direction.{Direction}
@@ -19,6 +20,7 @@ use Rattle.mq_differences.specs.Differences.{ShowsAll, IsReal, AreApart, AreMark
 use Rattle.mq_differences.specs.Differences.{same_way}
 use Rattle.mq_differences.specs.declared.way.Way.{Way}
 use Rattle.mq_lint.specs.Needless.{AllowSame, is_asked}
+use Rattle.mq_who.specs.Unasked.{is_not_compared}
 use Rattle.mq_acl_answers.specs.declared.commands.compare.Changes.{Changes}
 use Rattle.mq_acl_answers.specs.declared.outcome.Outcome.{Outcome}
 use Rattle.mq_acl_answers.specs.declared.outcome.Outcome.TheVariants.{Clear, Remark}
@@ -28,6 +30,10 @@ use Rattle.mq_acl_answers.specs.declared.commands.why.Explanation.{Explanation}
 pub record AreRows (rules : Rules) (text : List ℕ) (rows : List Row) : Type 0 where
   pub read : rows_by rules text ≡ Ok (row_views rows)
   pub numbered : line_views rows ≡ row_lines_by rules text
+
+-- mosquitto takes each line of the text
+abbrev pub IsTaken : (text : List ℕ) → Type 0
+IsTaken text = (rows : List AclRow) × (rows_by Mosquitto text ≡ Ok rows)
 
 -- it shows whether the client may read and write the topic, and the lines that decide it
 pub record Explains (rules : Rules) (text client : List ℕ) (user : Option (List ℕ))
@@ -91,6 +97,15 @@ abbrev pub is_way : (only : Option Way) → Way → Bool
 is_way None way = true
 is_way (Some only) way = same_way only way
 
+-- each user whom a row of the lists names is compared
+abbrev pub LeavesNoneOut : Rules → (old new : List AclRow) → Type 0
+LeavesNoneOut rules old new =
+    (name : List ℕ) → is_not_compared rules (old ++ new) name ≡ false
+
+-- or one isn't
+abbrev pub LeavesOut : Rules → (old new : List AclRow) → Type 0
+LeavesOut rules old new = (name : List ℕ) × (is_not_compared rules (old ++ new) name ≡ true)
+
 -- nothing changes in this way for the clients that a broker can have, and that are asked about
 abbrev pub NoneChanges : Rules → Way → (old new : List AclRow) → Type 0
 NoneChanges rules way old new = (client name : List ℕ) (user : Option (List ℕ))
@@ -109,17 +124,22 @@ pub record SomeChanges (rules : Rules) (way : Way) (old new : List AclRow) : Typ
   pub changes : is_change rules way old new client user name direction ≡ true
 
 -- whether the rows allow the same to the clients that a broker can have, and that are asked about, is shown; or whether
--- one list allows nothing that the other doesn't
+-- one list allows nothing that the other doesn't. Where nothing is to be remarked, no user whom a row names is left out
 abbrev pub SaysWhetherSame : Rules → (only : Option Way) → (old new : List AclRow) → Outcome
     → Type 0
-SaysWhetherSame rules None old new Clear = AllowSame rules (old ++ new) old new
-SaysWhetherSame rules None old new Remark = Differ rules old new
-SaysWhetherSame rules (Some way) old new Clear = NoneChanges rules way old new
-SaysWhetherSame rules (Some way) old new Remark = SomeChanges rules way old new
+SaysWhetherSame rules None old new Clear =
+    AllowSame rules (old ++ new) old new × LeavesNoneOut rules old new
+SaysWhetherSame rules None old new Remark = Differ rules old new ⊎ LeavesOut rules old new
+SaysWhetherSame rules (Some way) old new Clear =
+    NoneChanges rules way old new × LeavesNoneOut rules old new
+SaysWhetherSame rules (Some way) old new Remark =
+    SomeChanges rules way old new ⊎ LeavesOut rules old new
 
--- and so is it of the lists with these texts
+-- and so is it of the lists with these texts, which mosquitto takes
 pub record IsCompared (rules : Rules) (only : Option Way) (old new : List ℕ)
     (outcome : Outcome) : Type 0 where
+  pub old_taken : IsTaken old
+  pub new_taken : IsTaken new
   pub old_rows : List AclRow
   pub new_rows : List AclRow
   pub old_read : rows_by rules old ≡ Ok old_rows

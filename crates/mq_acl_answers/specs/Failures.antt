@@ -48,8 +48,19 @@ IsListFailure rules list (failure.Long file line) =
     (file.now ≡ list.file.now) × IsLongLine rules list.text.now line
 IsListFailure rules list (failure.Mark file line) =
     (file.now ≡ list.file.now) × IsMarkedLine rules list.text.now line
+IsListFailure rules list (failure.Foreign file what) = (file.now ≡ list.file.now)
+    × ((line : ℕ) × IsFaultyLine rules list.text.now line)
 IsListFailure rules list failure.Memory = ⊤
 IsListFailure rules list other = ⊥
+
+-- mosquitto doesn't take the list, and this is its first line that it doesn't take
+abbrev pub IsNotTaken : ListText → Failure → Type 0
+IsNotTaken list (failure.NotTaken file line words) =
+    (file.now ≡ list.file.now) × IsFaultyLine Mosquitto list.text.now line
+IsNotTaken list (failure.Foreign file what) = (file.now ≡ list.file.now)
+    × ((line : ℕ) × IsFaultyLine Mosquitto list.text.now line)
+IsNotTaken list failure.Memory = ⊤
+IsNotTaken list other = ⊥
 
 -- it is the line of a row of the list in this file
 abbrev pub IsRowLine : ListText → List Row → (file : List ℕ) → (line : ℕ) → Type 0

@@ -1,16 +1,17 @@
 -- What is odd or needless in a list.
-use Rattle.std.specs.Prelude.{◌≡◌, ◌≢◌, ◌⊎◌, ◌<◌, ℕ, Bool, true, false, List, [], length}
-use Rattle.std.specs.Prelude.{Some, None, Ok, slice_index_or}
+use Rattle.std.specs.Prelude.{◌≡◌, ◌≢◌, ◌⊎◌, ℕ, Bool, true, false, List, [], Ok, Err}
 use Rattle.std.specs.List.{list_any}
 use Rattle.mq_acl.specs.Rows.{rows_by}
 use Rattle.mq_acl.specs.declared.row.Row.{Row}
+use Rattle.mq_acl.specs.declared.fault.AclFault.{AclFault}
 use Rattle.mq_acl.specs.declared.rules.Rules.{Rules}
-use Rattle.mq_lint.specs.Needless.{AreNeedless, IsKind}
+use Rattle.mq_acl.specs.declared.rules.Rules.TheVariants.{Mosquitto}
+use Rattle.mq_lint.specs.Needless.{AreNeedless}
 use Rattle.mq_lint.specs.Remarks.{remarks_of}
 use Rattle.mq_lint.specs.declared.remark.Remark.{Remark}
 use Rattle.mq_lint.specs.declared.remark.RemarkKind.{RemarkKind}
 use Rattle.mq_lint.specs.declared.remark.RemarkKind.TheVariants.{Fault, DeniesNothing}
-use Rattle.mq_acl_answers.specs.Answers.{AreRows}
+use Rattle.mq_acl_answers.specs.Answers.{AreRows, IsTaken}
 use Rattle.mq_acl_answers.specs.declared.outcome.Outcome.{Outcome}
 use Rattle.mq_acl_answers.specs.declared.outcome.Outcome.TheVariants.{Clear, Remark as Shown}
 use Rattle.mq_acl_answers.specs.declared.commands.lint.Remarks.{Remarks}
@@ -21,7 +22,7 @@ is_fault kind = false
 
 -- the remark says more than that a line denies nothing: such a line may guard
 abbrev pub matters : RemarkKind → Bool
-matters DeniesNothing = false
+matters (DeniesNothing ids) = false
 matters kind = true
 
 abbrev pub has_fault : List Remark → Bool
@@ -46,33 +47,36 @@ pub record AreRemarks (rules : Rules) (text : List ℕ) (r : Remarks) : Type 0 w
   pub empty : r.is_empty ≡ true → rows_by rules text ≡ Ok []
   pub full : has_fault r.odd.items ≡ false → r.is_empty ≡ false → rows_by rules text ≢ Ok []
 
--- the row at the place is needed, or it denies, and nothing that a row grants
-abbrev pub IsRight : Rules → List Row → ℕ → Row → Type 0
-IsRight rules rows place row =
-    IsKind rules rows place row None ⊎ IsKind rules rows place row (Some DeniesNothing)
-
--- nothing is odd about the lines of the text, they have no fault, and each row is needed, or it denies
--- nothing
+-- nothing is odd about the lines of the text, they have no fault, there is a row, and of none more is shown than that it
+-- denies nothing
 pub record IsClean (rules : Rules) (text : List ℕ) : Type 0 where
   pub even : remarks_of rules text ≡ []
   pub rows : List Row
   pub are_rows : AreRows rules text rows
-  pub right : (place : ℕ) (d : Row) → place < length rows
-      → IsRight rules rows place (slice_index_or rows place d)
+  pub some : rows_by rules text ≢ Ok []
+  pub shown : List Remark
+  pub are_shown : AreNeedless rules rows shown
+  pub quiet : has_needless shown ≡ false
 
--- some line of the text repeats another, or is needless
+-- of some line of the text it is shown that it repeats another, or is needless
 pub record HasNeedless (rules : Rules) (text : List ℕ) : Type 0 where
   pub rows : List Row
   pub are_rows : AreRows rules text rows
-  pub place : ℕ
-  pub row : Row
-  pub kind : RemarkKind
-  pub in_range : place < length rows
-  pub is : row ≡ slice_index_or rows place row
-  pub shown : IsKind rules rows place row (Some kind)
-  pub counts : matters kind ≡ true
+  pub shown : List Remark
+  pub are_shown : AreNeedless rules rows shown
+  pub counts : has_needless shown ≡ true
 
--- whether something is odd, faulty or needless is shown
+-- whether something is odd, faulty or needless is shown, or that nothing is allowed
 abbrev pub IsLinted : Rules → List ℕ → Outcome → Type 0
 IsLinted rules text Clear = IsClean rules text
 IsLinted rules text Shown = (remarks_of rules text ≢ []) ⊎ HasNeedless rules text
+    ⊎ (rows_by rules text ≡ Ok [])
+
+-- mosquitto doesn't take a line of the text
+abbrev pub IsRefused : (text : List ℕ) → Type 0
+IsRefused text = (fault : AclFault) × (rows_by Mosquitto text ≡ Err fault)
+
+-- whether mosquitto takes each line is shown
+abbrev pub SaysWhetherTaken : (text : List ℕ) → Bool → Type 0
+SaysWhetherTaken text true = IsTaken text
+SaysWhetherTaken text false = IsRefused text

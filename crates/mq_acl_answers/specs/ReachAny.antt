@@ -14,7 +14,7 @@ use Rattle.mq_differences.specs.Classes.{can_be_user}
 use Rattle.mq_differences.specs.declared.difference.Difference.{Difference}
 use Rattle.mq_expect.specs.Expectations.{Claim, Whom, Anonymous, User}
 use Rattle.mq_expect.specs.declared.expectation.Holds.TheVariants.{Never}
-use Rattle.mq_who.specs.Claims.{IsUnasked}
+use Rattle.mq_who.specs.Claims.{IsAgainst, IsUnasked}
 use Rattle.mq_who.specs.Who.{are_asked, is_asked, is_case}
 use Rattle.mq_acl_print.specs.declared.list.ListText.{ListText}
 use Rattle.mq_acl_answers.specs.Answers.{AreRows}
@@ -69,16 +69,17 @@ claim_about user wanted = record {
   except = None;
 }
 
-abbrev pub IsFound : Rules → List AclRow → (user : Option (List ℕ)) → (wanted : List ℕ)
+-- none of them may; or this client may read this topic, by the line of the rows that is shown
+abbrev pub IsFound : Rules → List Row → (user : Option (List ℕ)) → (wanted : List ℕ)
     → Option Difference → Type 0
-IsFound rules rows user wanted None = NoneMayRead rules rows user wanted
-IsFound rules rows user wanted (Some d) = AnyMayRead rules rows user wanted
+IsFound rules rows user wanted None = NoneMayRead rules (row_views rows) user wanted
+IsFound rules rows user wanted (Some d) = IsAgainst rules true rows (claim_about user wanted) d
 
 -- and so is it of the list with this text
 pub record IsFoundIn (rules : Rules) (text : List ℕ) (user : Option (List ℕ)) (wanted : List ℕ)
     (found : Option Difference) : Type 0 where
-  pub rows : List AclRow
-  pub read : rows_by rules text ≡ Ok rows
+  pub rows : List Row
+  pub are_rows : AreRows rules text rows
   pub shown : IsFound rules rows user wanted found
 
 -- no line of the list is for the user; or by mosquitto's rules nothing is asked about it

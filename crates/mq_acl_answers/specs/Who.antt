@@ -1,6 +1,7 @@
 -- Who may read or write the topics that a filter matches, and whether anybody but some users may.
-use Rattle.std.specs.Prelude.{◌≡◌, ℕ, Bool, true, false, List, ◌&&◌, ◌==◌, not, Option, Some, None, Ok}
+use Rattle.std.specs.Prelude.{◌≡◌, ◌⊎◌, ℕ, Bool, true, false, List, ◌&&◌, ◌==◌, not, Option, Some, None, Ok}
 use Rattle.std.specs.Prelude.{codes, if◌then◌else◌, string_bytes}
+use denote.Ref.{Bor}
 use Rattle.std.specs.List.{list_any, slice_split}
 use Rattle.std.specs.Str.{bytes_eq}
 use Rattle.mq_topic.specs.Texts.{is_filter, is_name, is_shared}
@@ -16,6 +17,7 @@ use Rattle.mq_differences.specs.Differences.{same_direction}
 use Rattle.mq_differences.specs.declared.class.Class.{Class}
 use Rattle.mq_differences.specs.declared.class.Class.TheVariants as classes
 use Rattle.mq_differences.specs.declared.difference.Difference.{Difference}
+use Rattle.mq_who.specs.Unasked.{has_text, is_unasked}
 use Rattle.mq_who.specs.Who.{IsListing, are_asked, is_asked, is_case}
 use Rattle.mq_who.specs.declared.permissions.Permissions.{Permissions}
 use Rattle.mq_acl_answers.specs.Answers.{AreRows}
@@ -92,14 +94,33 @@ NoOtherMay rules rows wanted access only = (direction : Direction) (client topic
     → is_other rows only user ≡ true → is_asked rules wanted client user topic ≡ true
     → allow_by rules rows client user topic direction ≡ false
 
--- where some are left out, it is shown whether others may
+-- a line names the user, no word means it, and by these rules nothing is asked about it
+abbrev pub is_not_asked : Rules → List AclRow → (only : Option (List ℕ)) → List ℕ → Bool
+is_not_asked rules rows only name = is_unasked rules rows name && is_other rows only (Some name)
+
+-- these are such users
+abbrev pub AreNotAsked : Rules → List AclRow → (only : Option (List ℕ)) → List (Bor (List ℕ))
+    → Type 0
+AreNotAsked rules rows only users =
+    (name : List ℕ) → has_text users name ≡ is_not_asked rules rows only name
+
+-- there are none
+abbrev pub AllAreAsked : Rules → List AclRow → (only : Option (List ℕ)) → Type 0
+AllAreAsked rules rows only = (name : List ℕ) → is_not_asked rules rows only name ≡ false
+
+-- or there is one
+abbrev pub SomeAreNotAsked : Rules → List AclRow → (only : Option (List ℕ)) → Type 0
+SomeAreNotAsked rules rows only = (name : List ℕ) × (is_not_asked rules rows only name ≡ true)
+
+-- where some are left out, it is shown whether others may; that none may only where something is asked about each whom a
+-- line names
 abbrev pub SaysWhetherOthers : Rules → List AclRow → (wanted : List ℕ)
     → (access : Option Direction) → (only : Option (List ℕ)) → Outcome → Type 0
 SaysWhetherOthers rules rows wanted access None outcome = outcome ≡ Clear
 SaysWhetherOthers rules rows wanted access (Some only) Clear =
-    NoOtherMay rules rows wanted access (Some only)
+    NoOtherMay rules rows wanted access (Some only) × AllAreAsked rules rows (Some only)
 SaysWhetherOthers rules rows wanted access (Some only) Remark =
-    OthersMay rules rows wanted access (Some only)
+    OthersMay rules rows wanted access (Some only) ⊎ SomeAreNotAsked rules rows (Some only)
 
 -- and so is it of the list with this text
 pub record IsWho (rules : Rules) (text wanted : List ℕ) (access : Option Direction)
@@ -121,6 +142,14 @@ is_left_out only class = list_any (has_word class) (words_in only)
 abbrev pub is_kept : (only : Option (List ℕ)) → Class → Bool
 is_kept None class = true
 is_kept (Some only) class = not (is_left_out only class)
+
+-- one of the words names the user
+abbrev pub is_named : (only user : List ℕ) → Bool
+is_named only user = list_any (λ word. names word user) (words_in only)
+
+abbrev pub is_kept_user : (only : Option (List ℕ)) → List ℕ → Bool
+is_kept_user None user = true
+is_kept_user (Some only) user = not (is_named only user)
 
 -- it is of a direction that is asked of, and of clients that aren't left out
 abbrev pub is_shown : (access : Option Direction) → (only : Option (List ℕ)) → Difference → Bool

@@ -37,6 +37,19 @@ pub enum Failure<'a> {
         line: u64,
         words: String,
     },
+    /// The file of a list is another one: what it is.
+    #[error("{0}: {1}")]
+    Foreign(&'a str, &'static str),
+    /// By our own rules: mosquitto doesn't take a line of a list, in words.
+    #[error("{file}:{line}: {words}")]
+    NotTaken {
+        file: &'a str,
+        line: u64,
+        words: String,
+    },
+    /// What is said of the lines of the lists was printed; mosquitto doesn't take the list in this file.
+    #[error("mqroute-acl: {0}: mosquitto doesn't take this list")]
+    Linted(&'a str),
     /// A level or the user name of a line has over 300 bytes.
     #[error("{file}:{line}: a level or a user name of more than 300 bytes")]
     Long {
@@ -90,6 +103,9 @@ pub enum Failure<'a> {
         list: &'a str,
         others: u64,
     },
+    /// No line of a file of expectations expects anything.
+    #[error("mqroute-acl: {0}: no line expects anything")]
+    NoExpectation(&'a str),
     /// As it is printed: of a file that a file of expectations names.
     #[error("{0}")]
     OfNamed(String),

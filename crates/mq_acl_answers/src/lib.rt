@@ -13,14 +13,14 @@ mod printing;
 mod traffic;
 
 pub use commands::compare::{Changes, find_changes, is_way, show_changes};
-pub use commands::lint::{Remarks, add_lint, find_remarks};
+pub use commands::lint::{Linted, Remarks, add_lint, find_remarks};
 pub use commands::reach::{find_topic, show_reach};
 pub use commands::reach_any::{find_any, show_reach_any};
 pub use commands::script::{find_subscriptions, show_subscriptions};
 pub use commands::who::{find_permissions, show_who};
 pub use commands::why::{Explanation, explain, show_why};
 pub use failure::{FAILED, Failure, UNREADABLE};
-pub use list::list_failure;
+pub use list::{check_taken, list_failure};
 pub use notes::add_who_limit;
 pub use otherwise::{add_otherwise, add_otherwise_of_two};
 pub use outcome::Outcome;

@@ -1,4 +1,4 @@
-ghost use Rattle.std.specs.Prelude.{◌≡◌, IfOk, OnOk, IfErr};
+ghost use Rattle.std.specs.Prelude.{◌≡◌, IfOk, OnOk, IfErr, string_bytes};
 ghost use Rattle.std.specs.Io.KnownBytes.{Appends};
 ghost use Rattle.mq_acl_answers.specs.Statuses.{failure_status};
 
@@ -28,6 +28,8 @@ pub fn print_outcome<'a, W: Write>(
     outcome: Outcome,
 ) -> Result<Outcome, Failure<'a>>
     ensures ok { IfOk result (λ shown. shown ≡ outcome) }
+    ensures printed { IfOk answer (λ text. OnOk result
+        (Appends (W.contents out.old) (W.contents out.new) (string_bytes text))) }
     ensures err { IfErr result (λ failure. failure_status failure ≡ 3) }
 {
     let text = answer?;

@@ -10,8 +10,8 @@ have or none, and every topic. It is by rules of our own; without --rules a note
 on standard error says where mosquitto 2.0 decides otherwise. With --rules
 mosquitto it is by those of mosquitto 2.0. Then compare and lint leave out ids
 and user names with /, + or # if a list has pattern lines; who, test and reach
---any always leave them out. A note on standard error says so. A file - is
-standard input.
+--any always leave them out. A note on standard error says so, and a user whom
+a line names is shown as not asked. A file - is standard input.
 
 Exit status:
   0  compare: both lists allow the same, or differ only in the other way than
@@ -21,10 +21,11 @@ Exit status:
      line of EXPECTED holds
   1  the lists differ, lint has a remark, a subscription can receive nothing,
      somebody other than those of --only may, the client may not, or a line of
-     EXPECTED doesn't hold
+     EXPECTED doesn't hold. Where a user isn't asked about: compare, who --only
   2  the arguments aren't understood, an access list can't be opened, read or
-     understood, EXPECTED can't be opened or read, a script can't be opened or
-     read or has no command, or the steps don't suffice
+     understood, EXPECTED can't be opened or read or expects nothing, a script
+     can't be opened or read or has no command, or the steps don't suffice.
+     compare and lint: mosquitto doesn't take a line of a list
   3  a write failed, or memory ran out
 
 Example:
@@ -99,6 +100,8 @@ With --json each difference is an object with
             which of these, and of the levels of the topic, stand for others
   old, new  the line that decides it, with file, line and text; or null, where
             no line allows it
+and behind them one for each user whom a line names and nothing is asked about
+  not_asked  the user name
 With --json and --script it has too
   publishes  how many publishes of the script it is about at most
   topics     how many topics these are to
@@ -128,6 +131,7 @@ The remarks on each file stand in the order of the files, each with the text of
 its line. If one of them can't be read, nothing is written. A needless line is
 one without which the list allows the same. A line that denies nothing that a
 line grants may be there as a guard: alone, such lines don't make the status 1.
+If mosquitto doesn't take a line, it says what a reload of the list does.
 If there is nothing to remark on a file, it says so.
 
 A step is a look at one line for one question, or as much work as that takes.
@@ -135,9 +139,11 @@ When the steps are spent, there is no answer. Each file has as many.
 
 With --json each remark is an object with
   file, line, text  the line
-  kind              fault, no mark, indented comment, tab, repeats,
-                    denies nothing or needless; or empty, of a list without a
-                    topic or pattern line (line and text are null)
+  kind              fault, no mark, indented comment, tab, hidden characters,
+                    repeats, denies nothing or needless; or empty, of a list
+                    without a topic or pattern line (line and text are null);
+                    or not taken, of a line that mosquitto doesn't take, and of
+                    the list (line and text are null)
   other             the number of the line that it repeats, or that makes it
                     needless; or null
   words             the remark in words";
@@ -230,6 +236,8 @@ With --json each is an object with
            which of client, user and the levels of the topic stand for others
   topic    the topic
   user     its user name, or null
+and behind them one for each user whom a line names and nothing is asked about
+  not_asked  the user name
 With --json and --script each has too
   publishes  how many publishes of the script it is about at most
   topics     how many topics these are to";
@@ -272,12 +280,13 @@ With --json each line of EXPECTED that says something is an object with
   file, line, text  the line
   list              the list that it is tested of, or null
   holds             true or false
-  kind              holds, fails, differs, none may, unnamed, unasked, fault,
-                    long level, part of a level or no list
+  kind              holds, fails, differs, none may, unnamed, unasked,
+                    not asked, fault, long level, part of a level or no list
   words             why it doesn't hold, or null
   access, client, user, topic, placeholders
                     the client and the topic for which it doesn't, as compare
                     has them; or null, and no placeholders
+  not_asked         the user about whom nothing is asked, or null
   decided, other    the line that decides there in the list, and in the one
                     that it is compared with, with file, line and text; or null
 and the last object has

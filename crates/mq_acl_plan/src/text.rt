@@ -3,7 +3,7 @@ use crate::compared::Compared;
 use crate::objects::json_lines;
 use crate::scope::PlanScope;
 use crate::table::changes_table;
-use mq_acl_print::{Lines, ListText, lines_of};
+use mq_acl_print::{Escape, Lines, ListText, lines_of, shown_lines};
 use mq_differences::Way;
 use mq_through::Renamed;
 use std::alloc::{AllocError, Global};
@@ -34,7 +34,7 @@ fn none_text(
         text,
         ": of every topic that has a new name by {plan}, and every client id and user name a broker can have"
     )?;
-    Ok(text)
+    shown_lines(alloc, text.as_str(), Escape::Words)
 }
 
 fn answer(

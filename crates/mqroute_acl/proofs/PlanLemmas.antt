@@ -14,7 +14,7 @@ use Rattle.mq_through.specs.Through.{IsReal, Question, ShowsAll, is_changed, is_
 use Rattle.mq_through.specs.Through.{new_reason, old_reason, question_of, rule_line, same_line}
 use Rattle.mq_through.specs.declared.renamed.Renamed.{Renamed}
 use Rattle.mq_who.proofs.ExtentLemmas.{any_weaker}
-use Rattle.mq_acl_answers.specs.Answers.{is_way}
+use Rattle.mq_acl_answers.specs.Answers.{IsTaken, is_way}
 use Rattle.mq_acl_answers.specs.declared.outcome.Outcome.{Outcome}
 use Rattle.mq_acl_answers.specs.declared.outcome.Outcome.TheVariants.{Clear, Remark}
 use Rattle.mq_acl_answers.proofs.CompareLemmas.{not_true, way_is}
@@ -82,12 +82,15 @@ shown only plan old new all Remark every real none some =
 -- whether there is a change that is asked about says whether the lists decide alike through the
 -- plan
 pub compared_through : (rules : Rules) (only : Option Way) (old new plan : List ℕ)
-    (c : RenamedChanges) (outcome : Outcome) → rules ≡ Own → AreRenamed old new plan c
+    (c : RenamedChanges) (outcome : Outcome) → rules ≡ Own → IsTaken old → IsTaken new
+    → AreRenamed old new plan c
     → (outcome ≡ Clear → has_way only c.renamed.items ≡ false)
     → (outcome ≡ Remark → has_way only c.renamed.items ≡ true)
     → IsComparedThrough rules only old new plan outcome
-compared_through rules only old new plan c outcome own are none some = record {
+compared_through rules only old new plan c outcome own old_taken new_taken are none some = record {
   own = own;
+  old_taken = old_taken;
+  new_taken = new_taken;
   old_rows = c.old.items;
   new_rows = c.new.items;
   plan_rules = c.plan;

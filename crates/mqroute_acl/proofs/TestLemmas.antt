@@ -1,5 +1,5 @@
 -- The texts of lists, of those that the command line gives and of those that expectations name.
-use Rattle.std.proofs.Common.{◌≡◌, ◌∙◌, ◌<◌, ◌≤◌, ◌++◌, ◌∷◌, ℕ, List, [], Option, IfSome, All, true, false}
+use Rattle.std.proofs.Common.{◌≡◌, ◌≢◌, ◌∙◌, ◌<◌, ◌≤◌, ◌++◌, ◌∷◌, ℕ, List, [], Option, IfSome, All, true, false}
 use Rattle.std.proofs.Common.{Bool, ap, bytes_eq, get_or, length, string_bytes, subst, sym, take}
 use Rattle.std.specs.Borrow.{Bor}
 use Rattle.std.specs.List.{list_any}
@@ -54,12 +54,14 @@ pub tested_of : (rules : Rules) (noted : Bool) (known : Option (List ℕ)) (text
     → (rules ≡ Own → All (λ r. IsQuiet noted r.list.text.now) beside → quiet)
     → lists ≡ read → lines ≡ said → numbered_views said ≡ expectations_of text
     → ShowsTested rules lists (questions given (numbered_views lines)) outcome
+    → questions given (numbered_views lines) ≢ []
     → IsTested rules noted known text given outcome quiet
 tested_of rules noted known text given first named texts read beside lists said lines outcome
-    are_given more same reads same_beside silent same_lists same_lines entries shown = record {
+    are_given more same reads same_beside silent same_lists same_lines entries shown some = record {
       lists = read;
       read = reads (subst (AreNamed known given) (sym same) (more (All-weaker (IsGiven known)
           (IsNamed known given) (λ l is among. is) first are_given)));
+      some = subst (λ all. questions given all ≢ []) (ap numbered_views same_lines ∙ entries) some;
       shown = subst (λ (all : List ReadList). ShowsTested rules all
           (questions given (expectations_of text)) outcome) same_lists
           (subst (λ all. ShowsTested rules lists (questions given all) outcome)

@@ -6,7 +6,7 @@ use Rattle.mq_acl.specs.Views.{row_views}
 use Rattle.mq_acl.specs.declared.row.Row.{Row}
 use Rattle.mq_acl.specs.declared.rules.Rules.{Rules}
 use Rattle.mq_acl.specs.declared.rules.Rules.TheVariants.{Own}
-use Rattle.mq_acl_answers.specs.Answers.{is_way}
+use Rattle.mq_acl_answers.specs.Answers.{IsTaken, is_way}
 use Rattle.mq_acl_answers.specs.declared.outcome.Outcome.{Outcome}
 use Rattle.mq_acl_answers.specs.declared.outcome.Outcome.TheVariants.{Clear, Remark}
 use Rattle.mq_differences.specs.declared.way.Way.{Way}
@@ -27,10 +27,12 @@ ShowsThrough only plan old new Clear = (way : Way) (q : Question) → is_way onl
 ShowsThrough only plan old new Remark = (way : Way) × (q : Question) × (is_way only way ≡ true)
     × IsQuestion plan q × (is_changed way old new q ≡ true)
 
--- so it is of the lists and the plan with these texts, by our own rules
+-- so it is of the lists, which mosquitto takes, and the plan with these texts, by our own rules
 pub record IsComparedThrough (rules : Rules) (only : Option Way) (old new plan : List ℕ)
     (outcome : Outcome) : Type 0 where
   pub own : rules ≡ Own
+  pub old_taken : IsTaken old
+  pub new_taken : IsTaken new
   pub old_rows : List Row
   pub new_rows : List Row
   pub plan_rules : List PlanRule

@@ -1,5 +1,5 @@
 -- What the program does.
-use Rattle.std.specs.Prelude.{◌≡◌, ◌⊎◌, ℕ, Bool, false, List, Option, Some, string_bytes}
+use Rattle.std.specs.Prelude.{◌≡◌, ◌⊎◌, ℕ, Bool, false, List, Option, Some, None, string_bytes}
 use Rattle.std.specs.Io.KnownBytes.{Appends}
 use Rattle.mq_acl.specs.declared.rules.Rules.{Rules}
 use Rattle.mq_acl.specs.declared.rules.Rules.TheVariants.{Own}
@@ -16,7 +16,7 @@ use Rattle.mq_acl_answers.specs.Statuses.{outcome_status}
 use Rattle.mq_acl_answers.specs.Who.{IsWho}
 use Rattle.mq_acl_answers.specs.declared.outcome.Outcome.{Outcome}
 use Rattle.mqroute_acl.specs.Files.{IsTextOf}
-use Rattle.mqroute_acl.specs.Lint.{AreLinted}
+use Rattle.mqroute_acl.specs.Lint.{AreLinted, AreTaken, SomeIsRefused}
 use Rattle.mqroute_acl.specs.Plan.{IsComparedThrough}
 use Rattle.mqroute_acl.specs.Test.{IsTested}
 
@@ -38,6 +38,7 @@ IsAnswer rules noted input (Why file client topic may) outcome quiet = (text : L
     × IsExplained rules may text client.id client.user topic outcome
     × (rules ≡ Own → IsQuiet noted text → quiet)
 IsAnswer rules noted input (Lint files) outcome quiet = AreLinted rules input files outcome
+    × AreTaken input files
     × (rules ≡ Own → noted ≡ false → quiet)
 IsAnswer rules noted input (Reach file client filter) outcome quiet = (text : List ℕ)
     × IsTextOf input file text × IsReached rules text client.id client.user filter outcome
@@ -60,6 +61,16 @@ abbrev pub IsAnswered : Rules → (noted : Bool) → (input : Option (List ℕ))
 IsAnswered rules noted input asked status quiet =
     (question : Asked) × (outcome : Outcome) × (asked ≡ Some question) × ReadsInputOnce question
     × IsAnswer rules noted input question outcome quiet × (status ≡ outcome_status outcome)
+
+-- nothing was written; or it is asked of the lines of lists of which mosquitto doesn't take one
+abbrev pub IsUnread : (input : Option (List ℕ)) → Asked → (same : Type 0) → Type 0
+IsUnread input (Lint files) same = same ⊎ SomeIsRefused input files
+IsUnread input question same = same
+
+-- nothing was written of a question; and where none is asked neither
+abbrev pub IsUnreadBy : (input : Option (List ℕ)) → Option Asked → (same : Type 0) → Type 0
+IsUnreadBy input None same = same
+IsUnreadBy input (Some question) same = IsUnread input question same
 
 -- how a fault of the words is shown: of help the status is 0, and all of the text is written, or 3 where it can't be
 abbrev pub PrintsUsage : UsageFault → ℕ → (before after : Option (List ℕ)) → Type 0

@@ -1,5 +1,5 @@
 -- Whether lists are as a file of expectations says.
-use Rattle.std.specs.Prelude.{◌≡◌, ℕ, Bool, true, List, Option, All, string_bytes}
+use Rattle.std.specs.Prelude.{◌≡◌, ◌≢◌, [], ℕ, Bool, true, List, Option, All, string_bytes}
 use Rattle.std.specs.List.{list_any}
 use Rattle.std.specs.Str.{bytes_eq}
 use Rattle.mq_acl.specs.declared.rules.Rules.{Rules}
@@ -36,12 +36,13 @@ abbrev pub ShowsTested : Rules → List ReadList → List Question → Outcome �
 ShowsTested rules lists all Clear = AllHold rules lists all
 ShowsTested rules lists all Remark = SomeFails rules lists all
 
--- so it is of the expectations with this text, of the lists that are given or else of those that it names; and by our own
+-- so it is of the expectations with this text, which has some, of the lists that are given or else of those that it names; and by our own
 -- rules `quiet` holds, but where it is noted what mosquitto decides otherwise for a list that isn't plain
 pub record IsTested (rules : Rules) (noted : Bool) (input : Option (List ℕ)) (text : List ℕ)
     (given : List (List ℕ)) (outcome : Outcome) (quiet : Type 0) : Type 0 where
   pub lists : List ReadList
   pub read : All (IsRead rules input given) lists
+  pub some : questions given (expectations_of text) ≢ []
   pub shown : ShowsTested rules lists (questions given (expectations_of text)) outcome
   pub silent : rules ≡ Own → All (λ r. IsQuiet noted r.list.text.now) lists → quiet
 

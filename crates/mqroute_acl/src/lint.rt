@@ -1,17 +1,26 @@
 //! The answer to `lint`, of files.
-ghost use Rattle.std.specs.Prelude.{◌≡◌, ◌≤◌, IfOk, IfErr, OnOk, false, map};
+ghost use Rattle.std.specs.Prelude.{◌≡◌, ◌≤◌, ◌⊎◌, IfOk, IfErr, OnOk, false, map};
 ghost use Rattle.mq_acl.specs.declared.rules.Rules.TheVariants.{Own};
 ghost use Rattle.mq_acl_answers.specs.Statuses.{failure_status};
 ghost use Rattle.mq_acl_args.specs.Files.{input_count, is_input};
-ghost use Rattle.mqroute_acl.specs.Lint.{AreLinted, IsLintedFile};
+ghost use Rattle.mqroute_acl.specs.Lint.{AreLinted, AreTaken, IsLintedFile, SaysWhetherAllTaken};
+ghost use Rattle.mqroute_acl.specs.Lint.{SomeIsRefused, first_refused};
 
 use crate::files::text_of;
-use mq_acl_answers::{Failure, Outcome, add_lint, print_outcome};
+use mq_acl_answers::{Failure, Linted, Outcome, add_lint, print_outcome};
 use mq_acl_args::Options;
 use mq_acl_print::ListText;
 use std::alloc::Global;
 use std::io::{Read, Write};
 use std::rt::Files;
+
+/// What is said of the lists of files.
+#[derive(Clone, Copy, Drop)]
+struct LintedFiles<'a> {
+    outcome: Outcome,
+    // The first file of which mosquitto doesn't take the list, if there is one.
+    refused: Option<&'a str>,
+}
 
 // Of one file.
 fn lint_file<'a, R: Files, I: Read>(
@@ -22,9 +31,8 @@ fn lint_file<'a, R: Files, I: Read>(
     input: &mut I,
     answer: &mut String,
     notes: &mut String,
-) -> Result<Outcome, Failure<'a>>
-    ensures ok { IfOk result (IsLintedFile options.rules (I.remaining input.old)
-        file.entry.now) }
+) -> Result<Linted, Failure<'a>>
+    ensures ok { IfOk result (IsLintedFile options.rules (I.remaining input.old) file.entry.now) }
     ensures kept { is_input file.entry.now ≡ false → input.new ≡ input.old }
     ensures quiet { OnOk result (options.rules ≡ Own → options.noted ≡ false
         → notes.new ≡ notes.old) }
@@ -37,6 +45,17 @@ fn lint_file<'a, R: Files, I: Read>(
     add_lint(alloc, list, options, answer, notes)
 }
 
+// The first file of which mosquitto doesn't take the list, if it is so of one before or of this.
+fn first_refused<'a>(before: Option<&'a str>, file: &'a str, is_taken: bool) -> Option<&'a str>
+    ensures { result ≡ first_refused before.entry file.entry is_taken }
+{
+    match before {
+        Some(first) => Some(first),
+        None if is_taken => None,
+        None => Some(file),
+    }
+}
+
 // Of each file, in their order.
 fn lint_files<'a, R: Files, I: Read>(
     rt: &R,
@@ -46,23 +65,28 @@ fn lint_files<'a, R: Files, I: Read>(
     input: &mut I,
     answer: &mut String,
     notes: &mut String,
-) -> Result<Outcome, Failure<'a>>
+) -> Result<LintedFiles<'a>, Failure<'a>>
     requires { input_count (map (λ file. file.now) files.now) ≤ 1 }
-    ensures ok { IfOk result (AreLinted options.rules (I.remaining input.old)
-        (map (λ file. file.now) files.now)) }
+    ensures ok { IfOk result (λ linted. AreLinted options.rules (I.remaining input.old)
+        (map (λ file. file.now) files.now) linted.outcome) }
+    ensures taken { IfOk result (λ linted. SaysWhetherAllTaken (I.remaining input.old)
+        (map (λ file. file.now) files.now) linted.refused) }
     ensures kept { input_count (map (λ file. file.now) files.now) ≡ 0 → input.new ≡ input.old }
     ensures quiet { OnOk result (options.rules ≡ Own → options.noted ≡ false
         → notes.new ≡ notes.old) }
 {
     let mut outcome = Outcome::Clear;
+    let mut refused = None;
     for file in files {
-        let next = lint_file(rt, alloc, *file, options, input, answer, notes)?;
-        outcome = outcome.and(next);
+        let linted = lint_file(rt, alloc, *file, options, input, answer, notes)?;
+        outcome = outcome.and(linted.outcome);
+        refused = first_refused(refused, *file, linted.is_taken);
     }
-    Ok(outcome)
+    Ok(LintedFiles { outcome, refused })
 }
 
-/// Shows what is odd or needless in the lists of these files.
+/// Shows what is odd or needless in the lists of these files, and which lines mosquitto doesn't take.
+/// If there is one, that is a failure behind all that is shown.
 pub(crate) fn answer_lint<'a, R: Files, I: Read, W: Write>(
     rt: &R,
     alloc: Global,
@@ -75,11 +99,18 @@ pub(crate) fn answer_lint<'a, R: Files, I: Read, W: Write>(
     requires { input_count (map (λ file. file.now) files.now) ≤ 1 }
     ensures ok { IfOk result (λ outcome. AreLinted options.rules (I.remaining input.old)
         (map (λ file. file.now) files.now) outcome
+        × AreTaken (I.remaining input.old) (map (λ file. file.now) files.now)
         × (options.rules ≡ Own → options.noted ≡ false → notes.new ≡ notes.old)) }
-    ensures unread { IfErr result (λ failure. failure_status failure ≡ 2 → out.new ≡ out.old) }
+    ensures unread { IfErr result (λ failure. failure_status failure ≡ 2
+        → (out.new ≡ out.old)
+        ⊎ SomeIsRefused (I.remaining input.old) (map (λ file. file.now) files.now)) }
     ensures kept { input_count (map (λ file. file.now) files.now) ≡ 0 → input.new ≡ input.old }
 {
     let mut answer = String::new(alloc);
-    let outcome = lint_files(rt, alloc, files, options, input, &mut answer, notes)?;
-    print_outcome(out, Ok(answer), outcome)
+    let linted = lint_files(rt, alloc, files, options, input, &mut answer, notes)?;
+    let outcome = print_outcome(out, Ok(answer), linted.outcome)?;
+    match linted.refused {
+        Some(file) => Err(Failure::Linted(file)),
+        None => Ok(outcome),
+    }
 }

@@ -7,6 +7,7 @@ mod list_file;
 mod plan;
 mod program;
 mod reach;
+mod report;
 mod test;
 
 use crate::program::start;

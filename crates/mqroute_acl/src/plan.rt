@@ -10,7 +10,9 @@ ghost use Rattle.mqroute_acl.specs.Plan.{IsComparedThrough, has_way};
 
 use crate::files::text_of;
 use mq_acl::Rules;
-use mq_acl_answers::{Failure, Outcome, add_otherwise_of_two, is_way, list_failure, print_outcome};
+use mq_acl_answers::{
+    Failure, Outcome, add_otherwise_of_two, check_taken, is_way, list_failure, print_outcome,
+};
 use mq_acl_args::{Options, Through};
 use mq_acl_plan::{
     PlanAnswerFault, PlanScope, RenamedChanges, find_renamed, plan_fault_words, renamed_text,
@@ -158,7 +160,7 @@ fn answer_text(
     renamed_text(alloc, scope, (texts.old, texts.new), texts.plan, renamed)
 }
 
-// By our own rules.
+// By our own rules, of lists that mosquitto takes.
 fn compare_texts<'a, W: Write>(
     alloc: Global,
     texts: Texts<'a, '_>,
@@ -174,6 +176,8 @@ fn compare_texts<'a, W: Write>(
     ensures quiet { OnOk result (IsQuiet options.noted texts.entry.old.text.now
         → IsQuiet options.noted texts.entry.new.text.now → notes.new ≡ notes.old) }
 {
+    check_taken(alloc, texts.old)?;
+    check_taken(alloc, texts.new)?;
     let changes = find(alloc, texts, options.steps)?;
     let outcome = outcome_of(&changes.renamed, only);
     let text = answer_text(alloc, texts, only, options, changes.into_renamed());

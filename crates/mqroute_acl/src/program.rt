@@ -13,7 +13,7 @@ ghost use Rattle.mq_acl_answers.specs.Notes.{IsQuiet};
 ghost use Rattle.mq_acl_answers.specs.Statuses.{failure_status};
 ghost use Rattle.mq_acl_answers.specs.Who.{IsWho};
 ghost use Rattle.mqroute_acl.specs.Files.{IsTextOf};
-ghost use Rattle.mqroute_acl.specs.Program.{IsAnswer, IsAnswered, PrintsUsage};
+ghost use Rattle.mqroute_acl.specs.Program.{IsAnswer, IsAnswered, IsUnread, IsUnreadBy, PrintsUsage};
 
 use crate::files::{text_of, traffic_of};
 use crate::lint::answer_lint;
@@ -24,7 +24,7 @@ use mq_acl_answers::{
     FAILED, Failure, Outcome, UNREADABLE, print, show_changes, show_who, show_why,
 };
 use mq_acl_args::{Compare, Options, Question, Request, Who, Why, arguments};
-use mq_acl_print::{ListText, ScriptTraffic};
+use mq_acl_print::{Escape, ListText, ScriptTraffic, shown_lines, shown_name};
 use mq_args::UsageFault;
 use mq_traffic::Traffic;
 use std::alloc::{AllocError, Global};
@@ -166,7 +166,9 @@ fn answer<'a, R: Files, I: Read, W: Write>(
     ensures ok { IfOk result (λ outcome. IsAnswer request.entry.options.rules
         request.entry.options.noted (I.remaining input.old) (question_view request.entry.question) outcome
         (notes.new ≡ notes.old)) }
-    ensures unread { IfErr result (λ failure. failure_status failure ≡ 2 → out.new ≡ out.old) }
+    ensures unread { IfErr result (λ failure. failure_status failure ≡ 2
+        → IsUnread (I.remaining input.old) (question_view request.entry.question)
+        (out.new ≡ out.old)) }
     ensures kept { input_count (files_of (question_view request.entry.question)) ≡ 0
         → input.new ≡ input.old }
 {
@@ -200,23 +202,35 @@ fn print_error<E: Write>(text: Result<String, AllocError>, status: u8, err: &mut
     status
 }
 
+// A failure in a line of its own, as it is shown.
+fn failure_line(alloc: Global, failure: &Failure<'_>) -> Result<String, AllocError> {
+    let words = format!(in alloc; "{failure}")?;
+    let mut line = shown_name(alloc, words.as_str())?;
+    line.push('\n')?;
+    Ok(line)
+}
+
 /// Says why nothing is answered, and answers the status: 3 too where there is no memory for the text.
 fn report<E: Write>(alloc: Global, failure: Failure<'_>, err: &mut E) -> u8
     ensures { (result ≡ failure_status failure.entry) ⊎ (result ≡ 3) }
 {
-    let text = format!(in alloc; "{failure}\n");
-    print_error(text, failure.status(), err)
+    print_error(failure_line(alloc, &failure), failure.status(), err)
 }
 
-/// Writes what is to be noted beside an answer, and answers its status. A failed write is ignored.
-fn note<E: Write>(notes: String, status: u8, err: &mut E) -> u8
-    ensures status { result ≡ status }
+/// Writes what is to be noted beside an answer, and answers its status, or that of want of memory. A failed write is
+/// ignored.
+fn note<E: Write>(alloc: Global, notes: String, status: u8, err: &mut E) -> u8
+    ensures status { (result ≡ status) ⊎ (result ≡ 3) }
     ensures quiet { string_bytes notes ≡ [] → err.new ≡ err.old }
 {
-    if !notes.is_empty() {
-        let _ = print(err, notes.as_str());
+    if notes.is_empty() {
+        return status;
     }
-    status
+    print_error(
+        shown_lines(alloc, notes.as_str(), Escape::Words),
+        status,
+        err,
+    )
 }
 
 /// Prints help, or why the words are not understood, and answers the status.
@@ -282,8 +296,10 @@ pub(crate) fn start<R: Files, I: Read, W: Write, E: Write>(
     ensures not_understood { fault_of mqroute_acl (map string_bytes words.now) ≢ []
         → input.new ≡ input.old }
 
-    // At a status of 2 nothing is written, and beside help nothing is printed.
-    ensures unread { result ≡ 2 → out.new ≡ out.old }
+    // At a status of 2 nothing is written, but by `lint` of a list of which mosquitto doesn't take a
+    // line; and beside help nothing is printed.
+    ensures unread { result ≡ 2 → IsUnreadBy (I.remaining input.old)
+        (asked_by (subcommand_of mqroute_acl (map string_bytes words.now))) (out.new ≡ out.old) }
     ensures quiet { fault_of mqroute_acl (map string_bytes words.now) ≢ [] → result ≢ 2
         → result ≢ 3 → err.new ≡ err.old }
 {
@@ -293,7 +309,7 @@ pub(crate) fn start<R: Files, I: Read, W: Write, E: Write>(
     };
     let mut notes = String::new(alloc);
     match answer(rt, alloc, request, coloured, input, out, &mut notes) {
-        Ok(outcome) => note(notes, outcome.status(), err),
+        Ok(outcome) => note(alloc, notes, outcome.status(), err),
         Err(failure) => report(alloc, failure, err),
     }
 }

@@ -1,5 +1,5 @@
 //! The answer to `test`: whether lists are as a file of expectations says.
-ghost use Rattle.std.specs.Prelude.{◌≡◌, ◌≤◌, ◌++◌, ◌∷◌, [], ℕ, List, Option, All, IfOk, IfErr, OnOk, map};
+ghost use Rattle.std.specs.Prelude.{◌≡◌, ◌≢◌, ◌≤◌, ◌++◌, ◌∷◌, [], ℕ, List, Option, All, IfOk, IfErr, OnOk, map};
 ghost use Rattle.std.specs.List.{list_any};
 ghost use Rattle.std.specs.Str.{bytes_eq};
 ghost use Rattle.mq_acl.specs.declared.rules.Rules.{Rules};
@@ -15,6 +15,7 @@ ghost use Rattle.mqroute_acl.specs.Files.{IsTextOf};
 ghost use Rattle.mqroute_acl.specs.Test.{AreNamed, AreRead, IsGiven, IsNamed, IsRead, IsTested, ShowsTested};
 
 use crate::files::{opened_text, text_of};
+use crate::report::{Report, is_read_file};
 use mq_acl::Rules;
 use mq_acl_answers::{Failure, Outcome, add_otherwise, add_who_limit, list_failure, print_outcome};
 use mq_acl_args::{Options, Test};
@@ -25,7 +26,6 @@ use mq_acl_test::{
 };
 use mq_expect::{Numbered, read_expectations};
 use std::alloc::{AllocError, Global};
-use std::fs;
 use std::io::{self, ErrorKind, Read, Write};
 use std::rt::Files;
 
@@ -256,14 +256,19 @@ fn judged<'t>(
     junit: Option<&str>,
     options: Options,
 ) -> Result<Shown, Failure<'t>>
-    ensures { IfOk result (λ shown. ShowsTested options.rules lists.now
+    ensures shown { IfOk result (λ shown. ShowsTested options.rules lists.now
         (questions (map (λ file. file.now) given.now) (numbered_views expectations.now)) shown.outcome) }
+    ensures some { IfOk result (λ _.
+        questions (map (λ file. file.now) given.now) (numbered_views expectations.now) ≢ []) }
 {
     let rules = options.rules;
     let verdicts = match judge_all(alloc, rules, given, expectations, lists, options.steps) {
         Ok(verdicts) => verdicts,
         Err(fault) => return Err(failure_of(expected.file, fault)),
     };
+    if verdicts.is_empty() {
+        return Err(Failure::NoExpectation(expected.file));
+    }
     let outcome = outcome_of(&verdicts);
     Ok(Shown {
         text: verdicts_text(alloc, rules, expected, lists, &verdicts, options.json)?,
@@ -272,8 +277,9 @@ fn judged<'t>(
     })
 }
 
-// Refuses to write to a file that is read.
-fn keep_apart<'t>(
+// Refuses to write to a file that is read, by whatever name or link.
+fn keep_apart<'t, R: Files>(
+    rt: &R,
     junit: Option<&'t str>,
     expected: &str,
     given: &[&str],
@@ -282,7 +288,10 @@ fn keep_apart<'t>(
     let Some(file) = junit else {
         return Ok(());
     };
-    if file == expected || has_file(given, file) || has_file(wanted, file) {
+    let is_read = is_read_file(rt, file, expected)
+        || given.iter().any(|list| is_read_file(rt, file, *list))
+        || wanted.iter().any(|list| is_read_file(rt, file, *list));
+    if is_read {
         return Err(Failure::Overwritten(file));
     }
     Ok(())
@@ -309,7 +318,7 @@ fn tested<'t, R: Files, I: Read>(
     let mut lists = given_texts(rt, alloc, given, input)?;
     let expectations = read_expectations(alloc, expected.text)?;
     let wanted = wanted_files(alloc, given, &expectations)?;
-    keep_apart(junit, expected.file, given, &wanted)?;
+    keep_apart(rt, junit, expected.file, given, &wanted)?;
     add_all_named(rt, alloc, given, &wanted, &mut lists)?;
     let read = read_all(alloc, options.rules, &lists)?;
     add_notes(alloc, notes, &read, options)?;
@@ -327,25 +336,64 @@ fn shorter<'a: 't, 't>(alloc: Global, names: &[&'a str]) -> Result<Vec<&'t str>,
     Ok(all)
 }
 
-fn write_junit<'a, R: Files>(
+// The report, if one is wanted.
+fn prepared<'a, R: Files>(
     rt: &R,
+    alloc: Global,
     file: Option<&'a str>,
     text: Option<String>,
-) -> Result<(), Failure<'a>>
+) -> Result<Option<Report<'a>>, Failure<'a>>
     ensures { IfErr result (λ failure. failure_status failure ≡ 3) }
 {
     let (Some(file), Some(text)) = (file, text) else {
+        return Ok(None);
+    };
+    Ok(Some(Report::prepare(rt, alloc, file, text)?))
+}
+
+// Puts the report in its place, if the answer was written, and else leaves the file as it was.
+fn end_report<'a, R: Files>(
+    rt: &R,
+    report: Option<Report<'a>>,
+    is_written: bool,
+) -> Result<(), Failure<'a>>
+    ensures { IfErr result (λ failure. failure_status failure ≡ 3) }
+{
+    let Some(report) = report else {
         return Ok(());
     };
-    match fs::write(rt, file, text.as_str()) {
-        Ok(()) => Ok(()),
-        Err(error) => Err(Failure::Unwritten(file, error)),
+    if is_written {
+        return report.finish(rt);
     }
+    report.discard(rt);
+    Ok(())
+}
+
+// Writes what is said of the lines, and then the report.
+fn write_tested<'a, R: Files, W: Write>(
+    rt: &R,
+    alloc: Global,
+    junit: Option<&'a str>,
+    shown: Shown,
+    out: &mut W,
+) -> Result<Outcome, Failure<'a>>
+    ensures ok { IfOk result (λ outcome. outcome ≡ shown.outcome) }
+    ensures err { IfErr result (λ failure. failure_status failure ≡ 3) }
+{
+    let Shown {
+        text,
+        junit: report,
+        outcome,
+    } = shown;
+    let report = prepared(rt, alloc, junit, report)?;
+    let written = print_outcome(out, Ok(text), outcome);
+    end_report(rt, report, written.is_ok())?;
+    written
 }
 
 /// Shows which lines of a file of expectations don't hold of the lists in these files; or, where
-/// none is given, of those that it names. Before that it writes the same in JUnit's XML to a file,
-/// if one is named.
+/// none is given, of those that it names. Behind that the same in JUnit's XML takes the place of a
+/// file, if one is named. A file that expects nothing is a failure: it is another than was meant.
 pub(crate) fn answer_test<'a, R: Files, I: Read, W: Write>(
     rt: &R,
     alloc: Global,
@@ -372,10 +420,7 @@ pub(crate) fn answer_test<'a, R: Files, I: Read, W: Write>(
         text: text.as_str(),
     };
     match tested(rt, alloc, said, &given, asked.junit, options, input, notes) {
-        Ok(shown) => {
-            write_junit(rt, asked.junit, shown.junit)?;
-            print_outcome(out, Ok(shown.text), shown.outcome)
-        }
+        Ok(shown) => write_tested(rt, alloc, asked.junit, shown, out),
         Err(failure) => Err(Failure::of_named(alloc, failure)),
     }
 }

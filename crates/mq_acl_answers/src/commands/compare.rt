@@ -1,15 +1,18 @@
 //! The answer to `compare`.
-ghost use Rattle.std.specs.Prelude.{◌≡◌, ℕ, IfOk, IfErr, OnOk, false, true};
+ghost use Rattle.std.specs.Prelude.{◌≡◌, ◌≢◌, ◌⊎◌, ◌++◌, ℕ, List, [], IfOk, IfErr, OnOk, false, true};
 ghost use Rattle.std.specs.List.{list_any};
 ghost use Rattle.mq_acl.specs.declared.rules.Rules.TheVariants.{Own};
 ghost use Rattle.mq_differences.specs.Faults.{IsComparisonFault};
-ghost use Rattle.mq_acl_answers.specs.Answers.{AreChanges, AreRows, IsCompared, is_way};
+ghost use Rattle.mq_acl.specs.Views.{row_views};
+ghost use Rattle.mq_who.specs.Unasked.{has_text, is_not_compared};
+ghost use Rattle.mq_acl_answers.specs.Answers.{AreChanges, AreRows, IsCompared};
+ghost use Rattle.mq_acl_answers.specs.Answers.{SaysWhetherSame, is_way};
 ghost use Rattle.mq_acl_answers.specs.Failures.{IsComparisonFailure};
 ghost use Rattle.mq_acl_answers.specs.Notes.{IsQuiet};
 ghost use Rattle.mq_acl_answers.specs.Statuses.{failure_status};
 
 use crate::failure::Failure;
-use crate::list::rows_in;
+use crate::list::{check_taken, rows_in};
 use crate::notes::{add_limits, is_limited};
 use crate::otherwise::add_otherwise_of_two;
 use crate::outcome::Outcome;
@@ -18,6 +21,7 @@ use mq_acl::{Row, Rules};
 use mq_acl_args::Options;
 use mq_acl_print::{ComparedTraffic, ListText, Scope, ScriptTraffic, changes_text};
 use mq_differences::{ComparisonFault, Difference, Side, Way, compare};
+use mq_who::users_not_compared;
 use std::alloc::{AllocError, Global};
 use std::io::Write;
 
@@ -140,17 +144,47 @@ fn has_change(differences: &[Difference], only: Option<Way>) -> bool
     differences.iter().any(|d| is_way(only, d.way))
 }
 
-// Whether there are differences that are asked about.
-fn outcome_of(differences: &[Difference], only: Option<Way>) -> Outcome
+// Whether there are differences that are asked about, or users about whom nothing is.
+fn outcome_of(differences: &[Difference], only: Option<Way>, users: &[&str]) -> Outcome
     ensures clear { result ≡ Outcome.Clear
-        → list_any (λ d. is_way only d.way) differences.now ≡ false }
+        → (list_any (λ d. is_way only d.way) differences.now ≡ false) × (users.now ≡ []) }
     ensures remark { result ≡ Outcome.Remark
-        → list_any (λ d. is_way only d.way) differences.now ≡ true }
+        → (list_any (λ d. is_way only d.way) differences.now ≡ true) ⊎ (users.now ≢ []) }
 {
     if has_change(differences, only) {
         return Outcome::Remark;
     }
-    Outcome::Clear
+    if users.is_empty() {
+        return Outcome::Clear;
+    }
+    Outcome::Remark
+}
+
+// The users whom the lists name, and about whom by these rules nothing is asked.
+fn users_in<'c>(
+    alloc: Global,
+    rules: Rules,
+    changes: &'c Changes,
+) -> Result<Vec<&'c str>, AllocError>
+    ensures { IfOk result (λ users. (name : List ℕ) → has_text users.items name
+        ≡ is_not_compared rules (row_views changes.entry.now.old.items
+        ++ row_views changes.entry.now.new.items) name) }
+{
+    users_not_compared(alloc, rules, &changes.old, &changes.new)
+}
+
+fn outcome_in(
+    alloc: Global,
+    rules: Rules,
+    changes: &Changes,
+    only: Option<Way>,
+) -> Result<Outcome, AllocError>
+    ensures { (old new : List ℕ) → AreChanges rules old new changes.now
+        → IfOk result (SaysWhetherSame rules only (row_views changes.now.old.items)
+        (row_views changes.now.new.items)) }
+{
+    let users = users_in(alloc, rules, changes)?;
+    Ok(outcome_of(&changes.differences, only, &users))
 }
 
 // Those that are asked about.
@@ -174,6 +208,7 @@ fn answer_text(
     changes: Changes,
 ) -> Result<String, AllocError> {
     let (old, new, differences) = changes.into_parts();
+    let not_asked = users_not_compared(alloc, options.rules, &old, &new)?;
     let rules = options.rules;
     let traffic = script.map(|script| ComparedTraffic {
         script,
@@ -184,6 +219,7 @@ fn answer_text(
         rules,
         only,
         is_limited: is_limited(rules, &old) || is_limited(rules, &new),
+        not_asked: &not_asked,
         traffic,
         coloured: options.coloured,
     };
@@ -194,7 +230,7 @@ fn answer_text(
 /// Shows where the lists with these texts differ, or what one of them alone allows, if so many
 /// steps suffice to know it, and notes of whom it isn't known, and by our own rules where mosquitto
 /// decides otherwise. Where a script is given, its publishes that each difference is about at most
-/// are counted.
+/// are counted. Of a list that mosquitto doesn't take nothing is answered.
 pub fn show_changes<'a, W: Write>(
     alloc: Global,
     old: ListText<'a, '_>,
@@ -212,8 +248,10 @@ pub fn show_changes<'a, W: Write>(
         → IsQuiet options.noted old.entry.text.now → IsQuiet options.noted new.entry.text.now
         → notes.new ≡ notes.old) }
 {
+    check_taken(alloc, old)?;
+    check_taken(alloc, new)?;
     let changes = find_changes(alloc, options.rules, old, new, options.steps)?;
-    let outcome = outcome_of(&changes.differences, only);
+    let outcome = outcome_in(alloc, options.rules, &changes, only)?;
     add_limits(
         notes,
         options.rules,

@@ -1,22 +1,23 @@
 //! The answer to `lint`.
-ghost use Rattle.std.specs.Prelude.{◌≡◌, ◌≢◌, ◌⊎◌, ℕ, [], IfOk, IfErr, OnOk, true, false};
+ghost use Rattle.std.specs.Prelude.{◌≡◌, ◌≢◌, ◌⊎◌, ℕ, List, [], IfOk, IfErr, OnOk, true, false};
 ghost use Rattle.mq_acl.specs.declared.rules.Rules.TheVariants.{Own};
 ghost use Rattle.mq_lint.specs.NeedlessFault.{IsNeedlessFault};
 ghost use Rattle.mq_lint.specs.Needless.{AreNeedless};
+ghost use denote.Ref.{Bor};
 ghost use Rattle.mq_acl_answers.specs.Answers.{AreRows};
 ghost use Rattle.mq_acl_answers.specs.Failures.{IsLintFailure};
 ghost use Rattle.mq_acl_answers.specs.Lint.{AreRemarks, has_fault, has_needless, is_fault, matters};
-ghost use Rattle.mq_acl_answers.specs.Lint.{IsLinted};
+ghost use Rattle.mq_acl_answers.specs.Lint.{IsLinted, SaysWhetherTaken};
 
-use crate::commands::remarks::{add_empty, add_none, add_remarks};
+use crate::commands::remarks::{add_empty, add_none, add_refused, add_remarks};
 use crate::failure::Failure;
 use crate::list::rows_in;
 use crate::notes::{add_limit, is_limited};
 use crate::otherwise::add_whether_otherwise;
 use crate::outcome::Outcome;
-use mq_acl::{Row, Rules};
+use mq_acl::{AclKind, Row, Rules, read_rows_by};
 use mq_acl_args::Options;
-use mq_acl_print::ListText;
+use mq_acl_print::{ListText, foreign_words};
 use mq_lint::{NeedlessFault, Remark, RemarkKind, needless, remarks};
 use std::alloc::{AllocError, Global};
 
@@ -54,7 +55,7 @@ fn is_fault(kind: RemarkKind) -> bool
 fn matters(kind: RemarkKind) -> bool
     ensures { result ≡ matters kind }
 {
-    !matches!(kind, RemarkKind::DeniesNothing)
+    !matches!(kind, RemarkKind::DeniesNothing(_))
 }
 
 fn has_fault(odd: &[Remark]) -> bool
@@ -106,6 +107,17 @@ fn needless_in<'a>(
     }
 }
 
+// Whether a text with a fault is that of a list at all.
+fn check_foreign<'a>(list: ListText<'a, '_>) -> Result<(), Failure<'a>>
+    ensures { IfErr result (λ failure. (what : Bor (List ℕ))
+        × (failure ≡ Failure.Foreign list.entry.file what)) }
+{
+    match foreign_words(list.text) {
+        Some(what) => Err(Failure::Foreign(list.file, what)),
+        None => Ok(()),
+    }
+}
+
 /// What by these rules is odd or needless in the list. Where so many steps don't suffice to know
 /// it, it is given up: what is answered is always the whole.
 pub fn find_remarks<'a>(
@@ -119,6 +131,7 @@ pub fn find_remarks<'a>(
 {
     let odd = remarks(alloc, rules, list.text)?;
     if has_fault(&odd) {
+        check_foreign(list)?;
         return Ok(Remarks {
             odd,
             needless: Vec::new(alloc),
@@ -137,17 +150,52 @@ pub fn find_remarks<'a>(
     })
 }
 
-// Whether there are remarks, but for lines that deny nothing.
+// Whether there are remarks, but for lines that deny nothing, or the list allows nothing.
 fn outcome_of(remarks: &Remarks) -> Outcome
     ensures clear { result ≡ Outcome.Clear
-        → (remarks.now.odd.items ≡ []) × (has_needless remarks.now.needless.items ≡ false) }
+        → (remarks.now.odd.items ≡ []) × (has_needless remarks.now.needless.items ≡ false)
+        × (remarks.now.is_empty ≡ false) }
     ensures remark { result ≡ Outcome.Remark
-        → (remarks.now.odd.items ≢ []) ⊎ (has_needless remarks.now.needless.items ≡ true) }
+        → (remarks.now.odd.items ≢ []) ⊎ (has_needless remarks.now.needless.items ≡ true)
+        ⊎ (remarks.now.is_empty ≡ true) }
 {
+    if remarks.is_empty {
+        return Outcome::Remark;
+    }
     match (remarks.odd.is_empty(), has_needless(&remarks.needless)) {
         (true, false) => Outcome::Clear,
         _ => Outcome::Remark,
     }
+}
+
+// The lines that mosquitto doesn't take.
+fn refused_lines(alloc: Global, text: &str) -> Result<Vec<Remark>, AllocError> {
+    let all = remarks(alloc, Rules::Mosquitto, text)?;
+    all.into_iter()
+        .filter(|remark| is_fault(remark.kind))
+        .collect(alloc)
+}
+
+// Whether mosquitto takes each line.
+fn is_taken(alloc: Global, text: &str) -> Result<bool, AllocError>
+    ensures { IfOk result (SaysWhetherTaken text.now) }
+{
+    match read_rows_by(alloc, Rules::Mosquitto, text) {
+        Ok(_) => Ok(true),
+        Err(fault) => match fault.kind {
+            AclKind::Memory => Err(AllocError),
+            _ => Ok(false),
+        },
+    }
+}
+
+/// What is said of a list.
+#[derive(Clone, Copy, Drop)]
+pub struct Linted {
+    /// Whether something is to be remarked.
+    pub outcome: Outcome,
+    /// Whether mosquitto takes the list.
+    pub is_taken: bool,
 }
 
 // Adds what is said of the list as a whole: that it has no row, or that there is no remark.
@@ -169,26 +217,31 @@ fn add_whole(
 }
 
 /// Adds to an answer what is odd or needless in the list, if so many steps suffice to know it, and
-/// notes of whom it isn't known, and by our own rules where mosquitto decides otherwise or that it
-/// allows the same.
+/// which lines mosquitto doesn't take; and notes of whom it isn't known, and by our own rules where
+/// mosquitto decides otherwise or that it allows the same.
 pub fn add_lint<'a>(
     alloc: Global,
     list: ListText<'a, '_>,
     options: Options,
     answer: &mut String,
     notes: &mut String,
-) -> Result<Outcome, Failure<'a>>
-    ensures ok { IfOk result (IsLinted options.rules list.entry.text.now) }
+) -> Result<Linted, Failure<'a>>
+    ensures ok { IfOk result (λ linted. IsLinted options.rules list.entry.text.now linted.outcome) }
+    ensures taken { IfOk result (λ linted.
+        SaysWhetherTaken list.entry.text.now linted.is_taken) }
     ensures quiet { OnOk result (options.rules ≡ Own → options.noted ≡ false
         → notes.new ≡ notes.old) }
 {
     let found = find_remarks(alloc, options.rules, list, options.steps)?;
+    let is_taken = is_taken(alloc, list.text)?;
+    let refused = refused_lines(alloc, list.text)?;
     add_limit(notes, options.rules, list.file, &found.rows)?;
     if !has_fault(&found.odd) {
         add_whether_otherwise(alloc, notes, list, &found.rows, options)?;
     }
     let outcome = outcome_of(&found);
     add_remarks(alloc, answer, list, &found.odd, &found.needless, options)?;
+    add_refused(alloc, answer, list, &found.odd, &refused, options)?;
     add_whole(alloc, answer, list.file, &found, options)?;
-    Ok(outcome)
+    Ok(Linted { outcome, is_taken })
 }

@@ -1,8 +1,8 @@
 //! The answer to `reach --any`.
 ghost use Rattle.std.specs.Prelude.{◌≡◌, ℕ, List, Option, IfOk, IfErr, OnOk};
 ghost use Rattle.std.specs.Option.{option_copied};
-ghost use Rattle.mq_acl.specs.Rows.{AclRow};
 ghost use Rattle.mq_acl.specs.Views.{row_views};
+ghost use Rattle.mq_acl.specs.declared.row.Row.{Row};
 ghost use Rattle.mq_acl.specs.declared.rules.Rules.{Rules};
 ghost use Rattle.mq_acl.specs.declared.rules.Rules.TheVariants.{Own};
 ghost use Rattle.mq_expect.specs.Views.{claim_view, whom_view};
@@ -61,7 +61,7 @@ fn found_in<'a>(
     steps: u64,
 ) -> Result<Option<Difference>, Failure<'a>>
     requires { AreRows rules list.text.now rows.now }
-    ensures ok { IfOk result (IsFound rules (row_views rows.now) (option_copied about.entry.0)
+    ensures ok { IfOk result (IsFound rules rows.now (option_copied about.entry.0)
         about.entry.1.now) }
     ensures err { IfErr result (IsAnyFailure rules list.entry (option_copied about.entry.0)
         about.entry.1.now steps) }
@@ -73,8 +73,8 @@ fn found_in<'a>(
         Ok(Judgement::Fails(found)) => Ok(Some(found)),
         Ok(Judgement::Unnamed(user)) => Err(Failure::NoUser { file, user }),
         Ok(Judgement::Unasked(user)) => Err(Failure::UserMark(user)),
-        // That none may is only said of a line with `may some`.
-        Ok(Judgement::Holds | Judgement::NoneMay(_)) => Ok(None),
+        // That none may is only said of a line with `may some`, and that somebody is left out of one about anyone.
+        Ok(Judgement::Holds | Judgement::NoneMay(_) | Judgement::LeavesOut(_)) => Ok(None),
         Err(fault) => Err(who_failure(rules, list, rows, about.1, fault)),
     }
 }
@@ -102,8 +102,9 @@ pub fn find_any<'a>(
 
 // Whether one is found.
 fn outcome_of(found: &Option<Difference>) -> Outcome
-    ensures { (rules : Rules) (rows : List AclRow) (user : Option (List ℕ)) (wanted : List ℕ)
-        → IsFound rules rows user wanted found.now → SaysWhetherAny rules rows user wanted result }
+    ensures { (rules : Rules) (rows : List Row) (user : Option (List ℕ)) (wanted : List ℕ)
+        → IsFound rules rows user wanted found.now
+        → SaysWhetherAny rules (row_views rows) user wanted result }
 {
     match found {
         None => Outcome::Remark,

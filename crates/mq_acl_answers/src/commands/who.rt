@@ -1,6 +1,6 @@
 //! The answer to `who`.
 ghost use Rattle.std.specs.Prelude.{◌≡◌, ◌⊎◌, ℕ, List, IfOk, IfErr, OnOk, false, true};
-ghost use Rattle.std.specs.List.{list_any};
+ghost use Rattle.std.specs.List.{filter, list_any};
 ghost use Rattle.std.specs.Option.{option_copied};
 ghost use Rattle.mq_acl.specs.Views.{row_views};
 ghost use Rattle.mq_acl.specs.declared.row.Row.{Row};
@@ -8,6 +8,7 @@ ghost use Rattle.mq_acl.specs.declared.rules.Rules.{Rules};
 ghost use Rattle.mq_acl.specs.declared.rules.Rules.TheVariants.{Own};
 ghost use Rattle.mq_topic.specs.Texts.{is_shared};
 ghost use Rattle.mq_who.specs.Faults.{IsWhoFault};
+ghost use Rattle.mq_who.specs.Unasked.{has_text};
 ghost use Rattle.mq_who.specs.Who.{IsListing};
 ghost use Rattle.mq_acl_answers.specs.Answers.{AreRows};
 ghost use Rattle.mq_acl_answers.specs.Failures.{IsListFailure, IsWhoFailure};
@@ -15,7 +16,8 @@ ghost use Rattle.mq_acl_answers.specs.Notes.{IsQuiet};
 ghost use Rattle.mq_acl_answers.specs.Statuses.{failure_status};
 ghost use Rattle.mq_acl_answers.specs.Who.{ArePermissions, IsWho, SaysWhetherOthers};
 ghost use Rattle.mq_acl_answers.specs.Who.{has_word, is_kept, is_left_out, is_shown, is_unshared};
-ghost use Rattle.mq_acl_answers.specs.Who.{is_wanted, names};
+ghost use Rattle.mq_acl_answers.specs.Who.{AreNotAsked, is_kept_user, is_not_asked, is_wanted};
+ghost use Rattle.mq_acl_answers.specs.Who.{is_named, names};
 
 use crate::failure::Failure;
 use crate::list::rows_in;
@@ -28,7 +30,7 @@ use mq_acl_args::{Options, Selection};
 use mq_acl_print::{Asked, ListText, ListTraffic, ScriptTraffic, permissions_text};
 use mq_differences::{Class, Difference};
 use mq_topic::{TopicFault, TopicFilter};
-use mq_who::{Permissions, WhoFault, who_may};
+use mq_who::{Permissions, WhoFault, unasked_users, who_may};
 use std::alloc::{AllocError, Global};
 use std::io::Write;
 use std::mem;
@@ -160,10 +162,56 @@ fn has_shown(granted: &[Difference], selection: &Selection<'_>) -> bool
     granted.iter().any(|d| is_shown(selection, d))
 }
 
-// Whether anybody may that isn't left out, where some are.
-fn outcome_of(granted: &[Difference], selection: &Selection<'_>) -> Outcome
+// Whether one of the words between commas names the user.
+fn is_named(only: &str, user: &str) -> bool
+    ensures { result ≡ is_named only.now user.now }
+{
+    only.split(',').any(|word| names(word, user))
+}
+
+fn is_kept_user(only: Option<&str>, user: &str) -> bool
+    ensures { result ≡ is_kept_user (option_copied only.entry) user.now }
+{
+    match only {
+        None => true,
+        Some(only) => !is_named(only, user),
+    }
+}
+
+// Those of the users that aren't left out.
+fn kept_users<'u>(
+    alloc: Global,
+    users: Vec<&'u str>,
+    only: Option<&str>,
+) -> Result<Vec<&'u str>, AllocError>
+    ensures { IfOk result (λ kept. kept.items
+        ≡ filter (λ user. is_kept_user (option_copied only.entry) user.now) users.entry.items) }
+{
+    users
+        .into_iter()
+        .filter(|user| is_kept_user(only, *user))
+        .collect(alloc)
+}
+
+// The users whom the list names, who aren't left out, and about whom nothing is asked.
+fn not_asked<'r>(
+    alloc: Global,
+    rules: Rules,
+    rows: &'r [Row],
+    only: Option<&str>,
+) -> Result<Vec<&'r str>, AllocError>
+    ensures { IfOk result (λ users. (name : List ℕ) → has_text users.items name
+        ≡ is_not_asked rules (row_views rows.entry.now) (option_copied only.entry) name) }
+{
+    let users = unasked_users(alloc, rules, rows)?;
+    kept_users(alloc, users, only)
+}
+
+// Whether anybody may that isn't left out, where some are, or nothing is asked about somebody.
+fn outcome_of(granted: &[Difference], selection: &Selection<'_>, users: &[&str]) -> Outcome
     ensures { (rules : Rules) (rows : List Row) (wanted : List ℕ)
         → IsListing rules true rows wanted granted.now
+        → AreNotAsked rules (row_views rows) (option_copied selection.now.only) users.now
         → SaysWhetherOthers rules (row_views rows) wanted selection.now.access
         (option_copied selection.now.only) result }
 {
@@ -173,7 +221,10 @@ fn outcome_of(granted: &[Difference], selection: &Selection<'_>) -> Outcome
     if has_shown(granted, selection) {
         return Outcome::Remark;
     }
-    Outcome::Clear
+    if users.is_empty() {
+        return Outcome::Clear;
+    }
+    Outcome::Remark
 }
 
 // What is said of.
@@ -193,6 +244,7 @@ fn answer_text(
     list: ListText<'_, '_>,
     wanted: &str,
     selection: &Selection<'_>,
+    not_asked: &[&str],
     traffic: Option<ListTraffic<'_>>,
     permissions: Permissions,
     json: bool,
@@ -201,25 +253,13 @@ fn answer_text(
         filter: wanted,
         access: selection.access,
         of_others: selection.only.is_some(),
+        not_asked,
         traffic,
     };
     let mut permissions = permissions;
     let granted = mem::replace(&mut permissions.granted, Vec::new(alloc));
     let granted = shown(alloc, granted, selection)?;
     permissions_text(alloc, list, asked, granted, &permissions.refused, json)
-}
-
-// The rows of the list, where they are needed.
-fn rows_if<'a>(
-    alloc: Global,
-    needed: bool,
-    list: ListText<'a, '_>,
-    options: Options,
-) -> Result<Vec<Row>, Failure<'a>> {
-    if !needed {
-        return Ok(Vec::new(alloc));
-    }
-    rows_in(alloc, options.rules, list)
 }
 
 /// Shows who may by the list read or write the topics that the filter matches, if so many steps suffice to know it; and
@@ -244,13 +284,23 @@ pub fn show_who<'a, W: Write>(
     let permissions = find_permissions(alloc, options.rules, list, wanted, options.steps)?;
     add_who_limit(notes, options.rules)?;
     add_otherwise(alloc, notes, list, options)?;
-    let outcome = outcome_of(&permissions.granted, &selection);
-    let rows = rows_if(alloc, script.is_some(), list, options)?;
+    let rows = rows_in(alloc, options.rules, list)?;
+    let users = not_asked(alloc, options.rules, &rows, selection.only)?;
+    let outcome = outcome_of(&permissions.granted, &selection, &users);
     let traffic = script.map(|script| ListTraffic {
         script,
         rows: &rows,
     });
     let json = options.json;
-    let text = answer_text(alloc, list, wanted, &selection, traffic, permissions, json);
+    let text = answer_text(
+        alloc,
+        list,
+        wanted,
+        &selection,
+        &users,
+        traffic,
+        permissions,
+        json,
+    );
     print_outcome(out, text, outcome)
 }

@@ -1,7 +1,7 @@
 use Rattle.std.proofs.Common.{◌≡◌, false, take}
 use Rattle.mq_acl.specs.declared.rules.Rules.TheVariants.{Own}
 use Rattle.mq_acl_args.specs.Files.{input_count}
-use Rattle.mqroute_acl.specs.Lint.{AreLinted}
+use Rattle.mqroute_acl.specs.Lint.{AreLinted, SaysWhetherAllTaken}
 use Rattle.mqroute_acl.proofs.FilesLemmas.{texts}
 use Rattle.mqroute_acl.proofs.lint.lint_files.Given as goal
 
@@ -13,5 +13,7 @@ invariant-loop-file g l = record {
       → l.input ≡ l.initial.input;
   linted : AreLinted l.options.rules (g.I.Read.remaining l.initial.input) (texts (take l.file-index l.files))
       l.outcome;
+  taken : SaysWhetherAllTaken (g.I.Read.remaining l.initial.input) (texts (take l.file-index l.files))
+      l.refused;
   quiet : l.options.rules ≡ Own → l.options.noted ≡ false → l.notes ≡ l.initial.notes;
 }

@@ -13,11 +13,12 @@ returns-clause-ok g c =
     let asked = has_way c.args.only in
     let is = compared_through c.args.options.rules c.args.only c.args.texts.old.text.now
     c.args.texts.new.text.now c.args.texts.plan.text.now c.in_ok-changes.changes
-    c.outcome_of-outcome.result c.requires c.in_ok-changes.ensures
+    c.outcome_of-outcome.result c.requires c.in_ok-check_taken.ensures.ok
+    c.in_ok-check_taken-2.ensures.ok c.in_ok-changes.ensures
     (λ e. ap asked (sym c.deref.ensures.value) ∙ c.outcome_of-outcome.ensures.clear e)
     (λ e. ap asked (sym c.deref.ensures.value) ∙ c.outcome_of-outcome.ensures.remark e) in
     IfOk-weaker c.print_outcome.result _ _ (λ shown e. rw e is) c.print_outcome.ensures.ok
 
 pub returns-in_err-changes-clause-unread : goal.returns-in_err-changes-clause-unread
 returns-in_err-changes-clause-unread g c =
-    for_each c.from_residual.result _ (λ failure e. refl)
+    for_each c.from_residual-in_err-changes.result _ (λ failure e. refl)

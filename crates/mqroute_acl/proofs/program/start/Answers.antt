@@ -1,4 +1,4 @@
-use Rattle.std.proofs.Common.{◌≡◌, ◌∙◌, ap, map, string_bytes, subst}
+use Rattle.std.proofs.Common.{◌≡◌, ◌∙◌, ⊎_elim, ap, map, string_bytes, subst}
 use Rattle.mq_acl_args.specs.CommandLine.{mqroute_acl, noted_given, question_view, subcommand_of}
 use Rattle.mq_acl_args.specs.CommandLine.{values_of}
 use Rattle.mqroute_acl.specs.Program.{IsAnswer}
@@ -24,5 +24,6 @@ returns-in-Ok-answer-clause-answered g c = λ none read written.
           (answer-weaker options.rules options.noted known question outcome
           (λ same. c.note.ensures.quiet (ap string_bytes same ∙ c.new-notes.ensures.bytes))
           c.in-Ok-answer.ensures.ok)),
-      c.note.ensures.status ∙ c.status.ensures,
+      ⊎_elim (λ one. one ∙ c.status.ensures) (λ three. absurd (written three))
+          c.note.ensures.status,
     )

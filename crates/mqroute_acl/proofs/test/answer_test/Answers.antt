@@ -6,7 +6,7 @@ use Rattle.mqroute_acl.proofs.test.answer_test.Goals as goal
 pub returns-in-Ok-clause-ok : goal.returns-in-Ok-clause-ok
 returns-in-Ok-clause-ok g c =
     let known = g.I.Read.remaining in
-    IfOk-weaker c.print_outcome.result _ _
+    IfOk-weaker c.write_tested.result _ _
     (λ outcome is.
     answer_of c.args.options.rules c.args.options.noted (known c.args.input.now)
     (known c.text_of.new.input) c.args.asked.now.expected.now (map (λ file. file.now) c.args.asked.now.lists.items)
@@ -16,4 +16,4 @@ returns-in-Ok-clause-ok g c =
     (ap (map (λ file. file.now)) c.deref.ensures.value ∙ c.in_ok-given.ensures
     ∙ ap (map (λ file. file.now)) c.as_slice.ensures.value)
     c.as_str.ensures.value c.in_ok-text.ensures.ok c.in-Ok.ensures.ok is)
-    c.print_outcome.ensures.ok
+    c.write_tested.ensures.ok

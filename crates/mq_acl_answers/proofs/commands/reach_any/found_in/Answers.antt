@@ -4,17 +4,14 @@ use Rattle.mq_expect.specs.Expectations.{Claim}
 use Rattle.mq_who.specs.Claims.{IsJudgement}
 use Rattle.mq_who.specs.Faults.{IsWhoFault}
 use Rattle.mq_who.specs.declared.judge.Judgement.{Judgement}
-use Rattle.mq_who.specs.declared.judge.Judgement.TheVariants as judged
 use Rattle.mq_acl_answers.specs.ReachAny.{claim_about}
-use Rattle.mq_acl_answers.proofs.ReachAnyLemmas.{some_may}
 use Rattle.mq_acl_answers.proofs.commands.reach_any.found_in.Goals as goal
 
 pub returns-in-Ok-Fails-clause-ok : goal.returns-in-Ok-Fails-clause-ok
 returns-in-Ok-Fails-clause-ok c =
     let user = option_copied c.args.about.0 in
-    let found = c.in-Ok-Fails.found in
     let claimed = claim_about user c.args.about.1.now in
-    some_may c.args.rules c.args.rows.now user c.args.about.1.now found
+    rw c.in-Ok-Fails.field-0-is
     (subst (λ (j : Judgement). IsJudgement c.args.rules c.args.rows.now claimed j)
     c.in-Ok-Fails.field-0-is
     (subst (λ (k : Claim). IsJudgement c.args.rules c.args.rows.now k c.in-Ok-Fails.field-0)
