@@ -138,10 +138,14 @@ a.acl:2: a pattern line without %c and %u applies to every client
 a.acl:3: mosquitto 2.0 takes # for a comment in the first column only
     # indented
 a.acl:4: mosquitto 2.0 separates words by spaces only, not by tabs
-    topic\tread b
+    topic\\u{9}read b
 a.acl:5: the user name is missing
     user
 """
+# What mosquitto does with a list that it doesn't take, and what is said of it last.
+RELOAD = ("DON'T RELOAD {}: mosquitto 2.0.11 drops a list with a faulty line, and then allows "
+          "everything to everybody. It doesn't start with it either.")
+DROPPED = "mqroute-acl: {}: mosquitto doesn't take this list\n"
 NEEDLESS = """\
 topic read a/#
 topic read a/b
@@ -150,16 +154,17 @@ topic deny c/d
 topic read c/d
 """
 
-# Lists that are refused: their text, and what is shown of the first faulty line.
+# Lists that are refused: their text, what is shown of the first faulty line, and whether mosquitto
+# takes them.
 FAULTY = [
-    ("topic rw a\n", '1: unknown access "rw": expected read, write, readwrite or deny'),
-    ("\ntopics read a\n", '2: unknown keyword "topics": expected topic, pattern or user'),
-    ("topic read\n\ntopic\n", "3: the topic is missing"),
-    ("topic read a/#/b\n", '1: "a/#/b" is not a topic filter'),
-    ("user\n", "1: the user name is missing"),
-    ("pattern read a%c/b\n", '1: %c and %u must be whole levels: "a%c/b"'),
+    ("topic rw a\n", '1: unknown access "rw": expected read, write, readwrite or deny', False),
+    ("\ntopics read a\n", '2: unknown keyword "topics": expected topic, pattern or user', False),
+    ("topic read\n\ntopic\n", "3: the topic is missing", False),
+    ("topic read a/#/b\n", '1: "a/#/b" is not a topic filter', False),
+    ("user\n", "1: the user name is missing", False),
+    ("pattern read a%c/b\n", '1: %c and %u must be whole levels: "a%c/b"', True),
     ("topic read a\ntopic read " + "b" * 301 + "\n",
-     "2: a level or a user name of more than 300 bytes"),
+     "2: a level or a user name of more than 300 bytes", True),
 ]
 
 # Lists that aren't UTF-8, and the line of the first byte that isn't.
@@ -262,14 +267,17 @@ def faults_of_several(folder):
     none = ("b.acl: nothing to remark: by mqroute's own rules no line is faulty or odd, repeats "
             "another, denies nothing or is needless, for any client id and user name a broker can "
             "have\n")
-    cases = [(["b.acl"], 0, none), (["b.acl", "b.acl"], 0, none + none),
-             (["a.acl", "-"], 1, REMARKS + missing), (["-", "a.acl"], 1, missing + REMARKS),
-             (["b.acl", "a.acl", "b.acl"], 1, none + REMARKS + none),
-             (["a.acl", "b.acl"], 1, REMARKS + none)]
-    for names, status, wanted in cases:
+    said = {"a.acl": REMARKS + RELOAD.format("a.acl") + "\n", "b.acl": none,
+            "-": missing + RELOAD.format("-") + "\n"}
+    for names in (["b.acl"], ["b.acl", "b.acl"], ["a.acl", "-"], ["-", "a.acl"],
+                  ["b.acl", "a.acl", "b.acl"], ["a.acl", "b.acl"]):
         done = run(["lint", *names], folder, files["-"])
-        same = "b.acl: mosquitto 2.0 allows the same\n" * names.count("b.acl")
-        if (done.returncode, done.stdout, done.stderr) != (status, wanted, same):
+        dropped = [name for name in names if name != "b.acl"]
+        # of a list that mosquitto drops nothing is noted beside that
+        last = (DROPPED.format(dropped[0]) if dropped
+                else "b.acl: mosquitto 2.0 allows the same\n" * len(names))
+        if (done.returncode, done.stdout, done.stderr) != (
+                2 if dropped else 0, "".join(said[name] for name in names), last):
             yield f"lint {' '.join(names)}: status {done.returncode}:\n{done.stdout}{done.stderr}"
     for names in (["a.acl", "c.acl"], ["c.acl", "a.acl"]):
         done = run(["lint", *names], folder)
@@ -278,34 +286,37 @@ def faults_of_several(folder):
             yield f"lint {' '.join(names)}: status {done.returncode}:\n{done.stdout}{done.stderr}"
     pathlib.Path(folder, "-").write_text("\ntopic\n")
     done = run(["lint", "./-"], folder)
-    wanted = "./-:2: the topic is missing\n    topic\n"
-    if (done.returncode, done.stdout, done.stderr) != (1, wanted, ""):
+    wanted = f"./-:2: the topic is missing\n    topic\n{RELOAD.format('./-')}\n"
+    if (done.returncode, done.stdout, done.stderr) != (2, wanted, DROPPED.format("./-")):
         yield f"lint ./-: status {done.returncode}:\n{done.stdout}{done.stderr}"
 
 
 def faults_of_remarks(folder):
     pathlib.Path(folder, "a.acl").write_text(REMARKED)
     done = run(["lint", "a.acl"], folder)
-    if (done.returncode, done.stdout, done.stderr) != (1, REMARKS, ""):
+    wanted = f"{REMARKS}{RELOAD.format('a.acl')}\n"
+    if (done.returncode, done.stdout, done.stderr) != (2, wanted, DROPPED.format("a.acl")):
         yield f"lint: status {done.returncode}:\n{done.stdout}{done.stderr}"
     pathlib.Path(folder, "a.acl").write_text(NEEDLESS)
     done = run(["lint", "--json", "a.acl"], folder)
     shown = [(each["line"], each["words"]) for each in map(json.loads, done.stdout.splitlines())]
     needless = "needless: without it the list allows the same"
-    wanted = [(2, needless + ", because of line 1"), (4, needless + ", because of line 3"),
-              (5, needless + ", because of line 3")]
-    if (done.returncode, [each for each in shown if each[0] in (2, 4, 5)]) != (1, wanted):
+    # each of the last three by itself, and all: without them nothing below c is granted
+    wanted = [(2, needless + ", because of line 1"), (3, needless), (4, needless), (5, needless)]
+    if (done.returncode, shown) != (1, wanted):
         yield f"lint: status {done.returncode}: {shown}"
 
 
 def faults_of_refusals(folder):
-    for text, shown in FAULTY:
+    for text, shown, is_taken in FAULTY:
         pathlib.Path(folder, "a.acl").write_text(text)
         for words in (["compare", "a.acl", "a.acl"], ["why", "a.acl", "c", "t"]):
             if len(text) > 300 and words[0] == "why":
                 continue
             done = run(words, folder)
-            if (done.returncode, done.stdout, done.stderr) != (2, "", f"a.acl:{shown}\n"):
+            reload = "" if is_taken or words[0] == "why" else f". {RELOAD.format('a.acl')}"
+            if (done.returncode, done.stdout, done.stderr) != (
+                    2, "", f"a.acl:{shown}{reload}\n"):
                 yield (f"{' '.join(words)} of {text[:40]!r}: status {done.returncode}: "
                        f"{done.stdout}{done.stderr}")
     for text, line in NO_TEXTS:

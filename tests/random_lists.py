@@ -323,17 +323,18 @@ def faults_of_script(rules, folder, chance, text):
 def faults_of_needless(rules, folder, lines):
     """Lines that repeat others are listed, and no others as such. What a line denies that is listed
     as denying nothing, no line grants. Without a line that is listed as needless, and those that
-    repeat it, a list allows the same."""
+    repeat it, a list allows the same; and so it does without all of these."""
     done = run(["lint", *rules.words, "--json", "old.acl"], folder)
     shown = [json.loads(line) for line in done.stdout.splitlines()]
-    counted = [each for each in shown if each["kind"] not in ("denies nothing", "empty")]
+    counted = [each for each in shown if each["kind"] != "denies nothing"]
+    kinds = ("needless", "repeats", "no mark", "empty")
     if (done.returncode != (1 if counted else 0)
-            or any(each["kind"] not in ("needless", "repeats", "no mark") for each in counted)):
+            or any(each["kind"] not in kinds for each in counted)):
         yield f"lint: status {done.returncode}: {done.stdout}{done.stderr}"
     rows = rows_of("\n".join(lines))
     yield from faults_of_noted(rules, done.stderr, {"old.acl": rows}, is_linted=True)
-    if [each for each in shown if each["kind"] == "empty"] and rows:
-        yield f"lint: {lines} allow something"
+    if bool([each for each in shown if each["kind"] == "empty"]) != (not rows):
+        yield f"lint: {lines} allow something, or nothing"
     of_kind = {kind: {each["line"]: each["other"] for each in shown if each["kind"] == kind}
                for kind in ("needless", "repeats", "denies nothing")}
     repeats = {}
@@ -357,6 +358,13 @@ def faults_of_needless(rules, folder, lines):
                     != accesses(rules, others, client, user, topic)):
                 yield f"lint: line {row.number} isn't needless: {user} {topic} as {client}"
                 break
+    called = [row for row in rows if row.number in of_kind["needless"]]
+    left = [row for row in rows if not any(row.same(other) for other in called)]
+    for user, client, topic in itertools.product(USERS, CLIENTS, TOPICS):
+        if (accesses(rules, rows, client, user, topic)
+                != accesses(rules, left, client, user, topic)):
+            yield f"lint: not needless together: {user} {topic} as {client}"
+            break
 
 
 def faults_of_random(rules, folder, count):
