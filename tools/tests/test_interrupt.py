@@ -33,13 +33,34 @@ READING = {"log_to_script": ["-"], "check": ["-"], "compare_log": ["-", "out"],
            "preview": ["out", "out", "-"]}
 PATIENCE = 20  # seconds
 STATUSES = {signal.SIGINT: 130, signal.SIGTERM: 143, signal.SIGHUP: 129}
+# A signal comes while Python ends an object, and then more often.
+FINALIZER = """
+import os, sys, threading, time
+sys.path.insert(0, {!r})
+from mqroute_tools.common import exit_status
+def send():
+    for _ in range(5):
+        os.kill(os.getpid(), {:d})
+        time.sleep(0.0005)
+class Ended:
+    def __del__(self):
+        threading.Thread(target=send).start()
+        time.sleep(0.05)
+def work():
+    Ended()
+    time.sleep(60)
+    return 0
+sys.exit(exit_status.run(work))
+"""
+
+
+def as_at_first() -> None:
+    """As from a terminal: in the background Ctrl-C is ignored, and so by what is started there."""
+    for number in STATUSES:
+        signal.signal(number, signal.SIG_DFL)
 
 
 def started(tool: str, words: list[str], python: str = sys.executable, **more) -> subprocess.Popen:
-    """As from a terminal: in the background Ctrl-C is ignored, and so by what is started there."""
-    def as_at_first() -> None:
-        for number in STATUSES:
-            signal.signal(number, signal.SIG_DFL)
     return subprocess.Popen([python, HERE / f"{tool}.py", *words], encoding="utf-8",
                             stdin=subprocess.PIPE, stdout=subprocess.PIPE, stderr=subprocess.PIPE,
                             preexec_fn=as_at_first, **more)
@@ -90,6 +111,16 @@ class Reading(unittest.TestCase):
                         said = running.communicate(timeout=PATIENCE)
                         self.assertEqual((*said, running.returncode),
                                          ("", f"{tool}: stopped\n", status))
+
+    def test_in_a_finalizer(self):
+        """What is raised there ends there."""
+        for number, status in STATUSES.items():
+            done = subprocess.run(
+                [sys.executable, "-c", FINALIZER.format(str(HERE), number)], encoding="utf-8",
+                capture_output=True, timeout=PATIENCE, preexec_fn=as_at_first)
+            with self.subTest(number=number):
+                self.assertEqual((done.returncode, done.stdout), (status, ""), done.stderr)
+                self.assertTrue(done.stderr.endswith(": stopped\n"), done.stderr)
 
     def test_a_signal_that_is_ignored(self):
         """As under nohup: a terminal that is closed ends nothing."""

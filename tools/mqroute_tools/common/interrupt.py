@@ -12,7 +12,10 @@ SIGNALS = tuple(getattr(signal, name) for name in ("SIGINT", "SIGTERM", "SIGHUP"
 
 
 PATIENCE = 5.0  # seconds to clean up in
+PAUSE = 0.01  # seconds until what was lost comes again
 came: list[int] = []  # the signal that was heeded
+is_lost = False  # whether it was raised in vain
+in_hook = False  # whether what is raised now would be too
 held_by = 0  # how many blocks hold it back
 
 
@@ -44,12 +47,41 @@ def raise_once(number: int, *_: object) -> None:
     end = time.monotonic() + PATIENCE
 
     def again(number: int, *_: object) -> None:
-        if number == signal.SIGINT or time.monotonic() > end:
+        global is_lost
+        if is_lost and not held_by and not in_hook:
+            is_lost = False
+            raise Stopped(number)
+        if not is_lost and (number == signal.SIGINT or time.monotonic() > end):
             stop(number)
     came.append(number)
     handle(again)
     if not held_by:
         raise Stopped(number)
+
+
+def send_again(unraised: "sys.UnraisableHookArgs") -> None:
+    """What a signal raises in a finalizer ends there, and Python only shows it. So the signal is sent
+    until it is raised elsewhere; what is raised in here would be lost too."""
+    global in_hook, is_lost
+    if not isinstance(unraised.exc_value, Stopped):
+        sys.__unraisablehook__(unraised)
+        return
+    in_hook = is_lost = True
+    import threading  # here, since nearly every run does without it
+    threading.Thread(target=send_lost, daemon=True).start()
+    in_hook = False
+
+
+def send_lost() -> None:
+    while is_lost:
+        os.kill(os.getpid(), came[-1])
+        time.sleep(PAUSE)
+
+
+def heed() -> None:
+    """From here on a signal raises Stopped."""
+    sys.unraisablehook = send_again
+    handle(raise_once)
 
 
 @contextmanager
@@ -67,6 +99,8 @@ def held() -> Iterator[None]:
 
 def leave() -> None:
     """Behind the work a signal ends the tool at once, unless one did."""
+    global is_lost
+    is_lost = False
     if not came:
         handle(stop)
 
