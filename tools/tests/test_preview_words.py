@@ -62,7 +62,8 @@ class Topic(unittest.TestCase):
 class Words(unittest.TestCase):
     def preview(self, **more) -> Preview:
         fields = {"users": [], "refused": [], "granted": [], "taken": [], "subscriptions": [],
-                  "remarks": [], "copies": Totals(0, 0, 0, 0, 0, 0, 0), "notes": []}
+                  "remarks": [], "copies": Totals(0, 0, 0, 0, 0, 0, 0), "notes": [],
+                  "not_asked": []}
         return Preview("old.acl", "new.acl", ["day.log"], "own", None, **fields | more)
 
     def test_shares(self):

@@ -47,7 +47,7 @@ def done(work: Callable[[], int]) -> int:
 
 def run(work: Callable[[], int]) -> int:
     """The status that `work` gives; where it raises anything, 2 after one line that says what."""
-    interrupt.handle(interrupt.raise_once)
+    interrupt.heed()
     try:
         refuse_closed_output()
         status = done(work)

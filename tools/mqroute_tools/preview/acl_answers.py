@@ -61,19 +61,20 @@ class Lists:
             text = text.replace(path, name) if path != name else text
         return text
 
-    def rights(self) -> tuple[list[Right], list[str]]:
-        """The differences that `mqroute-acl compare` shows, each with all whom it concerns; and
-        what it notes."""
+    def rights(self) -> tuple[list[Right], list[str], list[str]]:
+        """The differences that `mqroute-acl compare` shows, each with all whom it concerns; the
+        users whom a line names and about whom nothing is asked; and what it notes."""
         rows, notes = self.asked(
             "compare", [*self.plan, "--", self.current.path, self.proposed.path], quiet=False)
         known: dict[tuple[str, str, str, int, int], Right] = {}
-        for row in rows:
+        not_asked = [row["not_asked"] for row in rows if "not_asked" in row]
+        for row in (row for row in rows if "not_asked" not in row):
             old, new = self.current.line(row["old"]), self.proposed.line(row["new"])
             key = row["change"], row["access"], row["topic"], number(old), number(new)
             right = known.setdefault(key, Right(
                 *key[:3], Deciding(old, new), [], row.get("new_topic"), self.rule(row)))
             right.clients.append(Client(row["user"], row["client"], row["placeholders"]))
-        return list(known.values()), notes
+        return list(known.values()), not_asked, notes
 
     def rule(self, row: Json) -> Line | None:
         """The line of the plan that decides about the topic."""

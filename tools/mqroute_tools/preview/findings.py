@@ -157,15 +157,16 @@ class Preview:
     remarks: list[Remark]
     copies: Totals
     notes: list[str]  # on the rules, of mqroute-acl
+    not_asked: list[str]  # users whose rights aren't known
     facts: ScriptFacts = field(default_factory=ScriptFacts)
     could_keep: bool = False  # whether with --keep the causes would have commands
     plan: str | None = None
     carried: list[Carried] = field(default_factory=list)
 
     def changes(self) -> bool:
-        """Whether anything does; remarks don't count."""
+        """Whether anything does, or isn't known; remarks don't count."""
         return bool(self.users or self.refused or self.granted or self.taken
-                    or self.subscriptions)
+                    or self.subscriptions or self.not_asked)
 
     def losing(self) -> list[UserRow]:
         return [row for row in self.users if row.lost]
@@ -195,6 +196,7 @@ class Preview:
                 "taken": [right.json() for right in self.taken],
                 "subscriptions": [one.json() for one in self.subscriptions],
                 "remarks": as_objects(self.remarks), "notes": self.notes,
+                "not_asked": self.not_asked,
                 **by_plan, "totals": self.totals(), "summary": summary}
 
 

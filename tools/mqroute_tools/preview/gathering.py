@@ -52,6 +52,7 @@ class Steps:
 class Answers:
     """What mqroute-acl answers about both lists."""
     rights: list[Right]
+    not_asked: list[str]
     notes: list[str]
     remarks: list[Remark]
     subscriptions: list[Subscription]
@@ -119,13 +120,13 @@ def receiving_nothing(lists: Lists, scripts: tuple[str, str],
 def asked_first(lists: Lists, steps: Steps) -> Answers:
     """What needs no script, so that a list with a fault is refused before a long log is read."""
     steps.next()
-    rights, notes = lists.rights()
+    rights, not_asked, notes = lists.rights()
     steps.next()
     remarks = list(lists.new_remarks())
     steps.clear()
     for one in notes:
         note(one)
-    return Answers(rights, notes, remarks, [])
+    return Answers(rights, not_asked, notes, remarks, [])
 
 
 def run(options: argparse.Namespace, lists: Lists, one: AccessList, script: str,
@@ -184,7 +185,8 @@ def put_together(options: argparse.Namespace, lists: Lists, script: Script,
     found = Preview(
         options.current, options.proposed, options.source, options.rules or "own",
         later_name(options, script), differences.users, differences.refused, granted, taken,
-        answers.subscriptions, answers.remarks, differences.totals, answers.notes)
+        answers.subscriptions, answers.remarks, differences.totals, answers.notes,
+        answers.not_asked)
     found.facts = facts_of(script.path, wanted_lines(found.causes()))
     say_of(found.facts, script)
     publishes = {line: line for line in found.facts.wanted_publishes}

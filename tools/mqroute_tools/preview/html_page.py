@@ -13,7 +13,7 @@ from .page_rows import Rows
 from .page_style import STYLE
 from .share_picture import picture
 from .verdict import verdict
-from .words import CARRIED, summary, tried
+from .words import CARRIED, NOT_ASKED, summary, tried
 
 TITLE = "A new access list: who loses, who gains, what is newly allowed"
 PLAN_TITLE = "New topics and a new access list: who loses, who gains, what is newly allowed"
@@ -44,6 +44,8 @@ def parts(found: Preview, title: str) -> Iterator[str]:
             caption = (f"{counted(len(rights), 'rights', ',')} that {file(grants[0])} grants and "
                        f"{file(grants[1])} doesn't, whether or not anybody tried")
             yield section(head, rows.rights(name, rights, caption))
+    if found.not_asked:
+        yield section(NOT_ASKED, listed([f"user {user}" for user in found.not_asked], "not-asked"))
     if found.users:
         drawn = any(row.lost or row.gained for row in found.users)
         yield section("Who loses, who gains",
@@ -93,5 +95,9 @@ def verdict_of(found: Preview) -> str:
 
 def notes(found: Preview) -> str:
     """On whose rules an answer holds, or where other rules decide otherwise."""
-    items = "".join(f"<li>{escaped(note)}</li>" for note in found.notes)
-    return f"<ul class='notes'>{items}</ul>\n" if items else ""
+    return listed(found.notes, "notes") if found.notes else ""
+
+
+def listed(texts: list[str], kind: str) -> str:
+    items = "".join(f"<li>{escaped(text)}</li>" for text in texts)
+    return f"<ul class='{kind}'>{items}</ul>\n"

@@ -12,8 +12,8 @@ from .findings import (
     Carried, Cause, Deciding, Preview, RefusedRow, Remark, Right, Subscription, UserRow)
 from .gathered_topics import Topics
 from .words import (
-    CARRIED, NO_LINE, NO_RULE, changes, client_of, concerned, example_of, may, refusals, summary,
-    topic_count, topic_of, tried, verb, whom)
+    CARRIED, NO_LINE, NO_RULE, NOT_ASKED, changes, client_of, concerned, example_of, may, refusals,
+    summary, topic_count, topic_of, tried, verb, whom)
 
 ROWS = 20  # of each section
 CAUSES, TOPICS = 6, 4  # of each row
@@ -47,6 +47,7 @@ class Report:
              self.first(found.granted, self.right)),
             ("No longer allowed, whether or not anybody tried",
              self.first(found.taken, self.right)),
+            (NOT_ASKED, self.first(found.not_asked, self.not_asked)),
             ("Subscriptions that can receive nothing any more",
              self.first(found.subscriptions, self.subscription)),
             (CARRIED, self.first(found.carried, self.carried)),
@@ -65,6 +66,9 @@ class Report:
         return "\n".join(self.out.wrapped(
             f"{self.proposed} in place of {self.current}{renamed(found)}, tried on {sources}: "
             f"{tried(found)}"))
+
+    def not_asked(self, user: str) -> list[str]:
+        return [f"  user {shown(user)}"]
 
     def first(self, rows: list[Row], shows: Callable[[Row], Iterable[str]]) -> Iterator[str]:
         for row in rows[:ROWS]:

@@ -11,6 +11,7 @@ NO_NAME = "clients without a user name"
 RULES = {"own": "mqroute's own rules", "mosquitto": "mosquitto's rules"}
 NO_LINE, NO_RULE = "no line allows it", "no line is about it"
 CARRIED = "What the plan can't carry over as it is"
+NOT_ASKED = "Users that a line names and whose rights aren't known (their names hold /, + or #)"
 OTHERWISE = "another QoS, RETAIN flag, payload or expiry"
 
 
@@ -73,7 +74,13 @@ def summary(found: Preview) -> str:
             f"{counted(found.copies.before, 'messages', ',')}, {number_form(gaining, 'gain')}; "
             f"{counted(len(found.granted), 'rights granted', ',')}, {len(found.taken):,} taken "
             f"away; {counted(len(found.subscriptions), 'subscriptions', ',')} can receive nothing "
-            "any more")
+            f"any more{unknown(found)}")
+
+
+def unknown(found: Preview) -> str:
+    """Behind the sums: that they leave users out."""
+    number = len(found.not_asked)
+    return f"; the rights of {counted(number, 'users', ',')} aren't known" if number else ""
 
 
 def tried(found: Preview) -> str:
