@@ -12,10 +12,11 @@ use Rattle.mq_topic.specs.Matching.{ends_with_hash, level_matches, levels_match_
 use Rattle.mq_topic.specs.Texts.{parents}
 use Rattle.mq_acl.specs.Access.{applies, begins_with_dollar, concerns, covers, grants, is_deny}
 use Rattle.mq_acl.specs.Access.{is_user, pattern_level_matches, row_level_matches, rows_allow}
-use Rattle.mq_acl.specs.AccessLists.{AccessList, allow_by, allowed}
+use Rattle.mq_acl.specs.AccessLists.{AccessList, allow_by, allowed, grant_by}
 use Rattle.mq_acl.specs.Clients.{ask_client, ask_client_about, asks_client, asks_client_about}
 use Rattle.mq_acl.specs.Clients.{is_client_mark, may_be_level, may_cover}
 use Rattle.mq_acl.specs.Mosquitto.{decision, known_user, mosquitto_allows, row_covers, verdict}
+use Rattle.mq_acl.specs.Refused.{is_refused, refuses}
 use Rattle.mq_acl.specs.Rows.{AclRow, Who, Anonymous, Named, Everyone}
 use Rattle.mq_acl.specs.RowsByOwner.{is_everyones, is_own}
 use Rattle.mq_acl.specs.declared.access.Direction.{Direction}
@@ -110,10 +111,15 @@ module _ (a b : List ℕ) (user : Option (List ℕ)) (name : List ℕ) (directio
       (kept_same known (λ row. is_own known row.who) rows none i)
       (kept_same known (λ row. is_everyones row.who) rows none i)) false)
 
+  grant_same : (rules : Rules) (rows : List AclRow) → ask_client rules rows ≡ false
+      → grant_by rules rows a user name direction ≡ grant_by rules rows b user name direction
+  grant_same Own rows none = own_same rows none
+  grant_same Mosquitto rows none = mosquitto_same rows none
+
   same_by : (rules : Rules) (rows : List AclRow) → ask_client rules rows ≡ false
       → allow_by rules rows a user name direction ≡ allow_by rules rows b user name direction
-  same_by Own rows none = own_same rows none
-  same_by Mosquitto rows none = mosquitto_same rows none
+  same_by rules rows none =
+      ap (λ g. not (refuses rules direction name) && g) (grant_same rules rows none)
 
 -- a list whose rows don't ask for it
 pub same_for_all : (list : AccessList) → ask_client list.rules list.rows ≡ false
@@ -218,4 +224,5 @@ same_about list name none a b user direction = by list.rules none
         → allow_by rules list.rows a user name direction
         ≡ allow_by rules list.rows b user name direction
     by Own k = own_same_about a b user name direction list.rows k
-    by Mosquitto k = mosquitto_same a b user name direction list.rows k
+    by Mosquitto k = ap (λ g. not (is_refused direction name) && g)
+        (mosquitto_same a b user name direction list.rows k)

@@ -2,6 +2,7 @@ pub mod StartLemmas
 pub mod AccessLemmas
 pub mod FaultLemmas
 pub mod ByOwnerLemmas
+pub mod RefusedLemmas
 pub mod RowLemmas
 pub mod WordLemmas
 pub mod FilledLemmas

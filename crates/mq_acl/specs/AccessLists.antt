@@ -1,9 +1,10 @@
 -- What an access list allows, by its rules.
-use Rattle.std.specs.Prelude.{ℕ, Bool, true, List, Option, Some, None, ◌&&◌}
+use Rattle.std.specs.Prelude.{ℕ, Bool, true, List, Option, Some, None, ◌&&◌, not}
 use Rattle.std.specs.Prelude.{codes, if◌then◌else◌}
 use Rattle.std.specs.Str.{bytes_eq}
 use Rattle.mq_acl.specs.Access.{applies, concerns, rows_allow}
 use Rattle.mq_acl.specs.Mosquitto.{known_user, mosquitto_allows, row_covers}
+use Rattle.mq_acl.specs.Refused.{refuses}
 use Rattle.mq_acl.specs.Rows.{AclRow}
 use Rattle.mq_acl.specs.declared.access.Direction.{Direction}
 use Rattle.mq_acl.specs.declared.rules.Rules.{Rules}
@@ -14,11 +15,16 @@ pub record AccessList : Type 0 where
   pub rules : Rules
   pub rows : List AclRow
 
--- whether rows allow it by these rules
-abbrev pub allow_by : Rules → List AclRow → List ℕ → Option (List ℕ) → List ℕ → Direction → Bool
-allow_by Own rows client user name direction = rows_allow rows client user name direction
-allow_by Mosquitto rows client user name direction =
+-- whether rows grant it by these rules
+abbrev pub grant_by : Rules → List AclRow → List ℕ → Option (List ℕ) → List ℕ → Direction → Bool
+grant_by Own rows client user name direction = rows_allow rows client user name direction
+grant_by Mosquitto rows client user name direction =
     mosquitto_allows rows client user name direction
+
+-- whether it is allowed with these rows: they grant it, and the broker doesn't refuse it by itself
+abbrev pub allow_by : Rules → List AclRow → List ℕ → Option (List ℕ) → List ℕ → Direction → Bool
+allow_by rules rows client user name direction =
+    not (refuses rules direction name) && grant_by rules rows client user name direction
 
 -- without an access list everything is allowed (mosquitto.conf(5))
 unfoldable pub allowed : Option AccessList → List ℕ → Option (List ℕ) → List ℕ → Direction → Bool

@@ -9,6 +9,7 @@ pub mod ByOwner
 pub mod RowsByAccess
 pub mod Filled
 pub mod Mosquitto
+pub mod Refused
 pub mod MosquittoLines
 pub mod AccessLists
 pub mod Clients

@@ -15,6 +15,7 @@ use crate::clients::{ask_client, rows_ask_about};
 use crate::fault::{AclFault, AclKind};
 use crate::mosquitto::mosquitto_allows;
 use crate::read::read_rows_by;
+use crate::refused::refuses;
 use crate::row::{Owner, Row};
 use crate::rows_by_access::RowsByAccess;
 use crate::rules::Rules;
@@ -140,7 +141,7 @@ impl Acl {
         }
     }
 
-    // Whether the rows allow it by the list's rules.
+    // Whether the rows allow it by the list's rules, and the broker doesn't refuse it.
     #[tactic(auto, unfolding(crate::specs::AccessLists::allowed))]
     fn allows(
         &self,
@@ -152,6 +153,9 @@ impl Acl {
         ensures { result ≡ allowed (Some self.now) client.now (option_copied user.entry) name.now
             direction }
     {
+        if refuses(self.rules, direction, name) {
+            return false;
+        }
         match self.rules {
             Rules::Own => rows_allow(&self.by_access, client, user, name, direction),
             Rules::Mosquitto => mosquitto_allows(&self.by_access, client, user, name, direction),

@@ -16,7 +16,8 @@ use Rattle.mq_cover.specs.Choices.{other_at}
 use Rattle.mq_cover.specs.declared.remainder.Remainder.{Remainder}
 use Rattle.mq_cover.specs.declared.others.Others.{Others}
 use Rattle.mq_cover.specs.declared.start.Start.{Start}
-use Rattle.mq_cover.specs.declared.start.Start.TheVariants.{Plain, Dollar, Slash, Inside}
+use Rattle.mq_cover.specs.declared.start.Start.TheVariants.{Plain, Dollar, Readable, Writable}
+use Rattle.mq_cover.specs.declared.start.Start.TheVariants.{Slash, Inside}
 use Rattle.mq_cover.proofs.TextLemmas.{or_cases, false_is}
 use Rattle.mq_cover.proofs.NameLemmas.{suits_inside, no_dollar}
 use Rattle.mq_cover.proofs.RemainderLemmas.{covers_hash, covers_cons, passes_client, passes_user}
@@ -154,12 +155,12 @@ pub other_is : (start : Start) (others : Others) → are_others others ≡ true
 other_is start others h =
     at_start start (others_are (length others.plain.now == 0)
     (not (begins_with_dollar others.plain.now)) (is_name_level others.plain.now)
-    (begins_with_dollar others.dollar.now) (is_name_level others.dollar.now) h)
+    (fits_start Writable others.dollar.now) (is_name_level others.dollar.now) h)
   where
     at_start : (s : Start) → ((length others.plain.now == 0) ≡ false)
         × ((not (begins_with_dollar others.plain.now) ≡ true)
         × ((is_name_level others.plain.now ≡ true)
-        × ((begins_with_dollar others.dollar.now ≡ true)
+        × ((fits_start Writable others.dollar.now ≡ true)
         × (is_name_level others.dollar.now ≡ true)))) → IsOther s others (other_at s others)
     at_start Plain f = record {
       fit = f.1.0;
@@ -168,9 +169,25 @@ other_is start others h =
       unnamed =
           plain_unnamed others;
     }
-    at_start Dollar f = record {
+    at_start Dollar f =
+        let begins = (and_parts _ _ f.1.1.1.0).0 in
+        record {
+          fit = begins;
+          some = no_dollar others.dollar.now begins;
+          valid = f.1.1.1.1;
+          unnamed = dollar_unnamed others;
+        }
+    at_start Readable f =
+        let parts = and_parts (begins_with_dollar others.dollar.now) _ f.1.1.1.0 in
+        record {
+          fit = and_from _ _ parts.0 (and_parts _ _ parts.1).0;
+          some = no_dollar others.dollar.now parts.0;
+          valid = f.1.1.1.1;
+          unnamed = dollar_unnamed others;
+        }
+    at_start Writable f = record {
       fit = f.1.1.1.0;
-      some = no_dollar others.dollar.now f.1.1.1.0;
+      some = no_dollar others.dollar.now (and_parts _ _ f.1.1.1.0).0;
       valid = f.1.1.1.1;
       unnamed = dollar_unnamed others;
     }
@@ -194,6 +211,8 @@ behind_some : (start : Start) (level : List ℕ) → (length level == 0) ≡ fal
     → behind start level ≡ Inside
 behind_some Plain level e = ap (λ b. cond b Slash Inside) e
 behind_some Dollar level e = refl
+behind_some Readable level e = refl
+behind_some Writable level e = refl
 behind_some Slash level e = refl
 behind_some Inside level e = refl
 

@@ -8,11 +8,13 @@ use Rattle.mq_cover.specs.Remainders.{remainders_fit}
 use Rattle.mq_cover.specs.declared.others.Others.{Others}
 use Rattle.mq_cover.specs.declared.remainder.Remainder.{Remainder}
 use Rattle.mq_cover.specs.declared.start.Start.{Start}
-use Rattle.mq_cover.specs.declared.start.Start.TheVariants.{Dollar}
+use Rattle.mq_cover.specs.declared.start.Start.TheVariants.{Dollar, Readable, Writable}
 
 -- the level that stands for all that are not named
 abbrev pub other_at : Start → Others → List ℕ
 other_at Dollar others = others.dollar.now
+other_at Readable others = others.dollar.now
+other_at Writable others = others.dollar.now
 other_at start others = others.plain.now
 
 -- the levels that stand for others pass the test, and so do those of the marks

@@ -4,15 +4,20 @@ use Rattle.std.specs.Prelude.{if◌then◌else◌}
 use Rattle.std.specs.Str.{bytes_eq}
 use Rattle.mq_topic.specs.Texts.{contains_byte, is_plain}
 use Rattle.mq_acl.specs.Access.{begins_with_dollar}
+use Rattle.mq_acl.specs.Refused.{begins_own, begins_shared}
 use Rattle.mq_cover.specs.declared.others.Others.{Others}
 use Rattle.mq_cover.specs.declared.start.Start.{Start}
-use Rattle.mq_cover.specs.declared.start.Start.TheVariants.{Plain, Dollar, Slash, Inside}
+use Rattle.mq_cover.specs.declared.start.Start.TheVariants.{Plain, Dollar, Readable, Writable}
+use Rattle.mq_cover.specs.declared.start.Start.TheVariants.{Slash, Inside}
 
--- whether a name may go on with this level: at its front its first byte shows the two kinds of
--- names apart
+-- whether a name may go on with this level: at its front its first bytes show the kinds of names
+-- apart
 abbrev pub fits_start : Start → List ℕ → Bool
 fits_start Plain level = not (begins_with_dollar level)
 fits_start Dollar level = begins_with_dollar level
+fits_start Readable level = begins_with_dollar level && not (begins_shared level)
+fits_start Writable level =
+    begins_with_dollar level && (not (begins_shared level) && not (begins_own level))
 fits_start Slash level = true
 fits_start Inside level = true
 
@@ -20,6 +25,8 @@ fits_start Inside level = true
 abbrev pub behind : Start → List ℕ → Start
 behind Plain level = if length level == 0 then Slash else Inside
 behind Dollar level = Inside
+behind Readable level = Inside
+behind Writable level = Inside
 behind Slash level = Inside
 behind Inside level = Inside
 
@@ -52,7 +59,7 @@ abbrev pub are_others : Others → Bool
 are_others others =
     not (length others.plain.now == 0) && not (begins_with_dollar others.plain.now)
     && is_name_level others.plain.now
-    && begins_with_dollar others.dollar.now && is_name_level others.dollar.now
+    && fits_start Writable others.dollar.now && is_name_level others.dollar.now
 
 -- a level of a name, and none that stands for others
 abbrev pub is_choice : Others → List ℕ → Bool

@@ -8,7 +8,7 @@ use crate::start::Start;
 pub struct Others<'a> {
     /// Begins with no `$`, and isn't empty.
     pub plain: &'a str,
-    /// Begins with `$`.
+    /// Begins with `$`, and neither with `$share` nor with `$SYS`.
     pub dollar: &'a str,
 }
 
@@ -17,7 +17,7 @@ impl<'a> Others<'a> {
         ensures { result.now ≡ other_at start self.entry }
     {
         match start {
-            Start::Dollar => self.dollar,
+            Start::Dollar | Start::Readable | Start::Writable => self.dollar,
             _ => self.plain,
         }
     }

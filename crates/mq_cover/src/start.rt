@@ -1,6 +1,8 @@
 ghost use Rattle.std.specs.Prelude.{◌≡◌, length};
 ghost use Rattle.mq_cover.specs.Names.{fits_start, behind, ends, start_of};
 
+use mq_acl::{begins_own, begins_shared};
+
 /// Where a walk stands.
 #[derive(Clone, Copy, Drop, PartialEq, Eq)]
 pub enum Start {
@@ -8,6 +10,11 @@ pub enum Start {
     Plain,
     /// At the front of one that does.
     Dollar,
+    /// At the front of one that begins so, and not with `$share`: mosquitto lets nobody read that.
+    Readable,
+    /// At the front of one that begins so, and neither with `$share` nor with `$SYS`: of what does
+    /// clients may write the states of bridges alone.
+    Writable,
     /// Behind an empty first level: an empty text is not a name, so none ends here.
     Slash,
     /// Further on.
@@ -29,6 +36,10 @@ impl Start {
         match self {
             Start::Plain => !level.starts_with('$'),
             Start::Dollar => level.starts_with('$'),
+            Start::Readable => level.starts_with('$') && !begins_shared(level),
+            Start::Writable => {
+                level.starts_with('$') && !begins_shared(level) && !begins_own(level)
+            }
             Start::Slash | Start::Inside => true,
         }
     }

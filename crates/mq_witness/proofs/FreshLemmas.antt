@@ -5,12 +5,17 @@ use Rattle.std.proofs.Common.{zero, suc, length-append, append_assoc, subst, str
 use Rattle.std.specs.List.{list_any}
 use Rattle.std.proofs.lemmas.List.{length-replicate, replicate_more}
 use Rattle.std.proofs.lemmas.List.Folds.{list_any-append}
-use Rattle.std.proofs.lemmas.Bool.{false_from_ne_true, not-true, leb-true, le-leb}
+use Rattle.std.proofs.lemmas.Bool.{and_from, false_from_ne_true, not-true, leb-true, le-leb}
 use Rattle.std.proofs.Math.Dec.{eqb-suc-zero}
 use Rattle.mq_topic.proofs.ByteLemmas.{text_is, text_itself}
+use Rattle.mq_topic.specs.Levels.{levels}
 use Rattle.mq_topic.specs.Texts.{contains_byte}
 use Rattle.mq_acl.specs.Access.{begins_with_dollar}
-use Rattle.mq_cover.specs.Names.{is_name_level, is_choice}
+use Rattle.mq_acl.specs.Refused.{state_filter}
+use Rattle.mq_acl.proofs.RefusedLemmas.{other_own, other_shared, state_levels}
+use Rattle.mq_cover.specs.Names.{fits_start, is_name_level, is_choice}
+use Rattle.mq_cover.specs.Remainders.{fits}
+use Rattle.mq_cover.specs.declared.start.Start.TheVariants.{Writable}
 use Rattle.mq_witness.specs.Fresh.{is_literal, AreFresh, fresh_pass}
 use Rattle.mq_witness.specs.FreshTexts.{is_base, AreNew, AreShort, IsLong, IsNew, IsPadded, IsSeen}
 use Rattle.mq_witness.specs.FreshTexts.{client_base, user_base, fresh_texts}
@@ -116,20 +121,114 @@ made_some : (base text : List ℕ) → IsIdBase base → IsPadded base text
     → (length text == 0) ≡ false
 made_some base text b m = ap (λ t. length t == 0) m.is ∙ b.some (replicate m.count 120)
 
+-- and both begin as no name that the broker refuses does, or neither
+writable_text : (b : ℕ) (more : List ℕ) → (115 == b) ≡ false → (83 == b) ≡ false
+    → fits_start Writable (36 ∷ (b ∷ more)) ≡ true
+writable_text b more e f = and_from _ _ refl
+    (and_from _ _ (ap not (other_shared b more e)) (ap not (other_own b more f)))
+
+pub client_front : (d : Bool) (text : List ℕ) → IsPadded (client_base d) text
+    → fits_start Writable text ≡ d
+client_front true text m =
+    ap (fits_start Writable) m.is ∙ writable_text 99 (codes "lient" ++ replicate m.count 120) refl refl
+client_front false text m = ap (fits_start Writable) m.is
+
+user_front : (d : Bool) (text : List ℕ) → IsPadded (user_base d) text
+    → fits_start Writable text ≡ d
+user_front true text m =
+    ap (fits_start Writable) m.is ∙ writable_text 117 (codes "ser" ++ replicate m.count 120) refl refl
+user_front false text m = ap (fits_start Writable) m.is
+
+-- ---- a word that begins as none of the bases does
+record IsWord (w : List ℕ) : Type 0 where
+  pub level : is_name_level w ≡ true
+  pub plain : (y : List ℕ) → bytes_eq w (codes "x" ++ y) ≡ false
+  pub dollar : (y : List ℕ) → bytes_eq w (codes "$x" ++ y) ≡ false
+  pub client : (d : Bool) (y : List ℕ) → bytes_eq w (client_base d ++ y) ≡ false
+  pub user : (d : Bool) (y : List ℕ) → bytes_eq w (user_base d ++ y) ≡ false
+
+either : (P : Bool → Type 0) → P true → P false → (d : Bool) → P d
+either P t f true = t
+either P t f false = f
+
+own_is_word : IsWord (codes "$SYS")
+own_is_word = record {
+  level = refl;
+  plain = λ y. refl;
+  dollar = λ y. refl;
+  client = either (λ d. (y : List ℕ) → bytes_eq (codes "$SYS") (client_base d ++ y) ≡ false)
+      (λ y. refl) (λ y. refl);
+  user = either (λ d. (y : List ℕ) → bytes_eq (codes "$SYS") (user_base d ++ y) ≡ false)
+      (λ y. refl) (λ y. refl);
+}
+
+broker_is_word : IsWord (codes "broker")
+broker_is_word = record {
+  level = refl;
+  plain = λ y. refl;
+  dollar = λ y. refl;
+  client = either (λ d. (y : List ℕ) → bytes_eq (codes "broker") (client_base d ++ y) ≡ false)
+      (λ y. refl) (λ y. refl);
+  user = either (λ d. (y : List ℕ) → bytes_eq (codes "broker") (user_base d ++ y) ≡ false)
+      (λ y. refl) (λ y. refl);
+}
+
+connection_is_word : IsWord (codes "connection")
+connection_is_word = record {
+  level = refl;
+  plain = λ y. refl;
+  dollar = λ y. refl;
+  client = either (λ d. (y : List ℕ) → bytes_eq (codes "connection") (client_base d ++ y) ≡ false)
+      (λ y. refl) (λ y. refl);
+  user = either (λ d. (y : List ℕ) → bytes_eq (codes "connection") (user_base d ++ y) ≡ false)
+      (λ y. refl) (λ y. refl);
+}
+
+state_is_word : IsWord (codes "state")
+state_is_word = record {
+  level = refl;
+  plain = λ y. refl;
+  dollar = λ y. refl;
+  client = either (λ d. (y : List ℕ) → bytes_eq (codes "state") (client_base d ++ y) ≡ false)
+      (λ y. refl) (λ y. refl);
+  user = either (λ d. (y : List ℕ) → bytes_eq (codes "state") (user_base d ++ y) ≡ false)
+      (λ y. refl) (λ y. refl);
+}
+
+-- what the words of the states of bridges pass, the levels of their filter do
+pub states_fit : (p : List ℕ → Bool) → p (codes "$SYS") ≡ true → p (codes "broker") ≡ true
+    → p (codes "connection") ≡ true → p (codes "state") ≡ true
+    → fits p (levels state_filter) ≡ true
+states_fit p own broker connection state =
+    ap (fits p) state_levels
+    ∙ (λ i. own i && (broker i && (connection i && (state i && true))))
+
+word_literal : (d : Bool) (f : Fresh) → AreMade d f → (w : List ℕ) → IsWord w
+    → is_literal f w ≡ true
+word_literal d f made w is =
+    let apart = λ (base t : List ℕ) (m : IsPadded base t)
+    (n : (y : List ℕ) → bytes_eq w (base ++ y) ≡ false).
+    ap (λ u. not (bytes_eq w u)) m.is ∙ ap not (n (replicate m.count 120)) in
+    and_from _ _ (and_from _ _ (and_from _ _ (and_from _ _ is.level
+    (apart (codes "x") f.others.plain.now made.plain is.plain))
+    (apart (codes "$x") f.others.dollar.now made.dollar is.dollar))
+    (apart (client_base d) f.client.now made.client (is.client d)))
+    (apart (user_base d) f.user.now made.user (is.user d))
+
 -- texts that are made so are fresh
 pub are_fresh : (d : Bool) (f : Fresh) → AreMade d f → AreFresh f
 are_fresh d f made =
     let client = client_is_base d in
     let user = user_is_base d in
     record {
-      others = rw (
-        made_level (codes "x") f.others.plain.now refl made.plain,
-        made_level (codes "$x") f.others.dollar.now refl made.dollar,
-      )
-          ((λ i. not (length (made.plain.is i) == 0) && not (begins_with_dollar (made.plain.is i))
-          && true && begins_with_dollar (made.dollar.is i) && true)
-          ∙ ap (λ b. not b && true && true && true && true)
-          (eqb-suc-zero (length (replicate made.plain.count 120))));
+      others = and_from _ _ (and_from _ _ (and_from _ _ (and_from _ _
+          (ap (λ t. not (length t == 0)) made.plain.is
+          ∙ ap not (eqb-suc-zero (length (replicate made.plain.count 120))))
+          (ap (λ t. not (begins_with_dollar t)) made.plain.is))
+          (made_level (codes "x") f.others.plain.now refl made.plain))
+          (ap (fits_start Writable) made.dollar.is
+          ∙ writable_text 120 (replicate made.dollar.count 120) refl refl))
+          (made_level (codes "$x") f.others.dollar.now refl made.dollar);
       client = record {
         choice = choice d f made (client_base d) f.client.now client.fits client.plain client.dollar
             made.client;
@@ -144,6 +243,10 @@ are_fresh d f made =
           (made_apart (user_base d) (client_base d) f.user.now f.client.now (bases_apart d)
           made.user made.client);
       begin = user_begins d f.user.now made.user ∙ sym (client_begins d f.client.now made.client);
+      front = user_front d f.user.now made.user ∙ sym (client_front d f.client.now made.client);
+      states = states_fit (is_literal f) (word_literal d f made _ own_is_word)
+          (word_literal d f made _ broker_is_word) (word_literal d f made _ connection_is_word)
+          (word_literal d f made _ state_is_word);
     }
 
 -- new texts, seen as those that stand for others, are fresh

@@ -1,15 +1,21 @@
 -- The levels that no row names, in the place of a name's.
-use Rattle.std.proofs.Common.{◌≡◌, ℕ, ◌==◌, Bool, true, false, cond, not, List, [], ◌∷◌, length}
+use Rattle.std.proofs.Common.{◌≡◌, ℕ, ◌==◌, Bool, true, false, cond, not, ◌&&◌, List, [], ◌∷◌, length}
 use Rattle.std.proofs.Common.{bytes_eq, refl, ap, sym, ◌∙◌, map, if◌then◌else◌, ◌⊎◌, inl, inr}
 use Rattle.std.proofs.Common.{arith}
 use Rattle.std.proofs.lemmas.Bool.{and_from, and_parts, cond-true, cond_both, not-true}
 use Rattle.mq_topic.proofs.ByteLemmas.{text_flip}
 use Rattle.mq_acl.specs.Access.{begins_with_dollar}
-use Rattle.mq_cover.specs.Names.{is_choice, is_name_level, start_of, suits}
+use Rattle.mq_cover.specs.Names.{fits_start, is_choice, is_name_level, suits}
+use Rattle.mq_cover.specs.declared.start.Start.TheVariants as starts
 use Rattle.mq_cover.specs.declared.start.Start.TheVariants.{Slash, Inside}
 use Rattle.mq_cover.proofs.NameLemmas.{no_dollar, suits_inside}
 use Rattle.mq_witness.specs.Fresh.{is_literal, AreFresh, IsFreshId}
+use Rattle.mq_witness.specs.Names.{are_begun, has_front, start_at}
 use Rattle.mq_witness.specs.declared.fresh.Fresh.{Fresh}
+use Rattle.mq_witness.specs.declared.names.Names.{Names}
+use Rattle.mq_witness.specs.declared.names.Names.TheVariants.{Plain, Dollar, Readable, Writable}
+use Rattle.mq_witness.specs.declared.names.Names.TheVariants.{States}
+use Rattle.mq_witness.proofs.FrontLemmas.{front_begun, plain_front, writable_front}
 
 -- the level that stands for all that no row names, at the front of a name too
 abbrev pub other_of : Fresh → List ℕ → List ℕ
@@ -60,9 +66,46 @@ pub record OthersAre (f : Fresh) : Type 0 where
   pub dollar_some : (length f.others.dollar.now == 0) ≡ false
   pub plain : begins_with_dollar f.others.plain.now ≡ false
   pub dollar : begins_with_dollar f.others.dollar.now ≡ true
+  pub front : fits_start starts.Writable f.others.dollar.now ≡ true
 
 pub others_are : (f : Fresh) → AreFresh f → OthersAre f
-others_are f fresh = grind (arith, no_dollar f.others.dollar.now)
+others_are f fresh =
+    let all = and_parts _ (is_name_level f.others.dollar.now) fresh.others in
+    let four = and_parts _ (fits_start starts.Writable f.others.dollar.now) all.0 in
+    let three = and_parts _ (is_name_level f.others.plain.now) four.0 in
+    let two = and_parts (not (length f.others.plain.now == 0)) _ three.0 in
+    let begins = (and_parts (begins_with_dollar f.others.dollar.now) _ four.1).0 in
+    record {
+      plain_level = three.1;
+      dollar_level = all.1;
+      plain_some = not-true _ two.0;
+      dollar_some = no_dollar f.others.dollar.now begins;
+      plain = not-true _ two.1;
+      dollar = begins;
+      front = four.1;
+    }
+
+-- the ids begin as no name that the broker refuses does, or with no `$`
+abbrev pub has_ids : Fresh → Bool → Bool
+has_ids f true = fits_start starts.Writable f.client.now
+has_ids f false = not (begins_with_dollar f.client.now)
+
+ids_front : (names : Names) (f : Fresh) → AreFresh f → has_ids f (are_begun names) ≡ true
+    → (has_front names f.client.now ≡ true) × (has_front names f.user.now ≡ true)
+ids_front Plain f fresh h = (h, ap not fresh.begin ∙ h)
+ids_front Dollar f fresh h = (
+  writable_front Dollar f.client.now refl h,
+  writable_front Dollar f.user.now refl (fresh.front ∙ h),
+)
+ids_front Readable f fresh h = (
+  writable_front Readable f.client.now refl h,
+  writable_front Readable f.user.now refl (fresh.front ∙ h),
+)
+ids_front Writable f fresh h = (h, fresh.front ∙ h)
+ids_front States f fresh h = (
+  writable_front States f.client.now refl h,
+  writable_front States f.user.now refl (fresh.front ∙ h),
+)
 
 -- two texts that differ don't pass the test
 pub no : {A : Type 0} {b : Bool} → b ≡ false → b ≡ true → A
@@ -128,45 +171,59 @@ module _ {f : Fresh} {keep user client : List ℕ → Bool} (can : CanMove f kee
       (λ n u. no can.fresh.user.some) (λ n c. no can.fresh.client.some)
       (λ n m. other_by P l (λ d. no others.dollar_some) (λ d. no others.plain_some))
 
-  -- at the front of a name a level is kept, or nobody's, or the ids begin with `$` just where the name does
-  abbrev pub StaysAtFront : Bool → List ℕ → Type 0
-  StaysAtFront dollar l = (keep l ≡ true)
-      ⊎ (((user l ≡ false) × (client l ≡ false)) ⊎ (begins_with_dollar f.client.now ≡ dollar))
+  -- at the front of a name a level is kept, or nobody's, or the ids begin as the names do
+  abbrev pub StaysAtFront : Names → List ℕ → Type 0
+  StaysAtFront names l = (keep l ≡ true)
+      ⊎ (((user l ≡ false) × (client l ≡ false)) ⊎ (has_ids f (are_begun names) ≡ true))
 
-  moved_front : (dollar : Bool) (l : List ℕ) → StaysAtFront dollar l
-      → begins_with_dollar l ≡ dollar → begins_with_dollar (move f keep user client l) ≡ dollar
-  moved_front dollar l stays e = at stays
+  moved_front : (names : Names) (l : List ℕ) → StaysAtFront names l
+      → has_front names l ≡ true → has_front names (move f keep user client l) ≡ true
+  moved_front names l stays e = at stays
     where
       others : OthersAre f
       others = others_are f can.fresh
 
-      by : (user l ≡ true → begins_with_dollar f.user.now ≡ dollar)
-          → (client l ≡ true → begins_with_dollar f.client.now ≡ dollar)
-          → begins_with_dollar (move f keep user client l) ≡ dollar
-      by u c = moved_by (λ t. begins_with_dollar t ≡ dollar) l (λ k. e) (λ n. u) (λ n. c)
-          (λ n m. other_by (λ t. begins_with_dollar t ≡ dollar) l
-          (λ d. others.dollar ∙ sym d ∙ e) (λ d. others.plain ∙ sym d ∙ e))
+      by : (user l ≡ true → has_front names f.user.now ≡ true)
+          → (client l ≡ true → has_front names f.client.now ≡ true)
+          → has_front names (move f keep user client l) ≡ true
+      by u c = moved_by (λ t. has_front names t ≡ true) l (λ k. e) (λ n. u) (λ n. c)
+          (λ n m. other_by (λ t. has_front names t ≡ true) l
+          (λ d. writable_front names f.others.dollar.now (sym (front_begun names l e) ∙ d)
+          others.front)
+          (λ d. plain_front names f.others.plain.now (sym (front_begun names l e) ∙ d)
+          others.plain))
 
-      at : StaysAtFront dollar l → begins_with_dollar (move f keep user client l) ≡ dollar
-      at (inl k) = ap begins_with_dollar (move_keep l k) ∙ e
+      at : StaysAtFront names l → has_front names (move f keep user client l) ≡ true
+      at (inl k) = ap (has_front names) (move_keep l k) ∙ e
       at (inr (inl n)) = by (no n.0) (no n.1)
-      at (inr (inr ids)) = by (λ u. can.fresh.begin ∙ ids) (λ c. ids)
+      at (inr (inr ids)) = by (λ u. (ids_front names f can.fresh ids).1)
+          (λ c. (ids_front names f can.fresh ids).0)
 
   slash_suits : (g : List ℕ → List ℕ) (ls : List (List ℕ)) → suits Slash ls ≡ true
       → suits Slash (map g ls) ≡ true
   slash_suits g [] s = s
   slash_suits g (l ∷ ls) s = suits_inside (map g ls)
 
-  -- a name with its levels moved is one of the same kind
-  pub suits_moved : (dollar : Bool) (l : List ℕ) (ls : List (List ℕ)) → StaysAtFront dollar l
-      → suits (start_of dollar) (l ∷ ls) ≡ true
-      → suits (start_of dollar) (map (move f keep user client) (l ∷ ls)) ≡ true
-  suits_moved true l ls stays s =
-      and_from _ _ (moved_front true l stays (and_parts _ _ s).0)
+  begun_moved : (names : Names) (l : List ℕ) (ls : List (List ℕ)) → StaysAtFront names l
+      → has_front names l ≡ true
+      → (has_front names (move f keep user client l)
+      && suits Inside (map (move f keep user client) ls)) ≡ true
+  begun_moved names l ls stays e = and_from _ _ (moved_front names l stays e)
       (suits_inside (map (move f keep user client) ls))
-  suits_moved false l ls stays s =
+
+  -- a name with its levels moved is one of the same kind
+  pub suits_moved : (names : Names) (l : List ℕ) (ls : List (List ℕ)) → StaysAtFront names l
+      → suits (start_at names) (l ∷ ls) ≡ true
+      → suits (start_at names) (map (move f keep user client) (l ∷ ls)) ≡ true
+  suits_moved Dollar l ls stays s = begun_moved Dollar l ls stays (and_parts _ _ s).0
+  suits_moved Readable l ls stays s =
+      begun_moved Readable l ls stays (and_parts (has_front Readable l) _ s).0
+  suits_moved Writable l ls stays s =
+      begun_moved Writable l ls stays (and_parts (has_front Writable l) _ s).0
+  suits_moved States l ls stays s = begun_moved States l ls stays (and_parts _ _ s).0
+  suits_moved Plain l ls stays s =
       let parts = and_parts (not (begins_with_dollar l)) _ s in
-      and_from _ _ (ap not (moved_front false l stays (not-true _ parts.0)))
+      and_from _ _ (moved_front Plain l stays parts.0)
       (cond_both (length (move f keep user client l) == 0) Slash Inside
       (λ t. suits t (map (move f keep user client) ls) ≡ true)
       (λ e. slash_suits (move f keep user client) ls

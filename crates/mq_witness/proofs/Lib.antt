@@ -5,6 +5,7 @@ pub mod FreshMoves
 pub mod TriedLemmas
 pub mod OtherLemmas
 pub mod NameLemmas
+pub mod FrontLemmas
 pub mod LimitLemmas
 pub mod FreshLemmas
 pub mod OverlapLemmas

@@ -156,7 +156,7 @@ slash_plain : (parts : List (List ℕ)) → 0 < length parts → suits Plain ([]
 slash_plain [] h = absurd (omega arith)
 slash_plain (p ∷ parts) h = suits_inside parts
 
-plain_suits : (name : List ℕ) → 0 < length name
+pub plain_suits : (name : List ℕ) → 0 < length name
     → suits Plain (levels name) ≡ not (begins_with_dollar name)
 plain_suits [] h = absurd (omega arith)
 plain_suits (x ∷ xs) h = grind (arith, slash_plain, levels-nonempty, slash_no_dollar, suits_onto)

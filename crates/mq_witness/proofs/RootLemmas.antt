@@ -1,22 +1,28 @@
 -- The rows that have to do with a question, one by one.
 use Rattle.std.proofs.Common.{◌≡◌, ℕ, Bool, true, false, not, ◌&&◌, ◌||◌, List, [], ◌∷◌, ◌++◌}
-use Rattle.std.proofs.Common.{length, Option, refl, ap, sym, ◌∙◌, ◌<◌, ◌+◌, get_or, drop, Bor}
+use Rattle.std.proofs.Common.{length, Option, Some, refl, ap, sym, ◌∙◌, ◌<◌, ◌+◌, get_or, drop, Bor}
 use Rattle.std.proofs.Common.{arith, subst}
 use Rattle.std.specs.List.{list_all, list_any}
 use Rattle.std.proofs.lemmas.List.{drop_more}
 use Rattle.std.proofs.lemmas.List.Folds.{list_any-append, list_all-append}
 use Rattle.std.proofs.lemmas.Bool.{and_from, and_left, and_parts, and_right}
+use Rattle.std.proofs.Math.Bool.{and-true}
 use Rattle.mq_topic.specs.Levels.{levels}
+use Rattle.mq_topic.specs.Matching.{level_matches, levels_match_by}
 use Rattle.mq_acl.specs.Access.{applies, begins_with_dollar}
+use Rattle.mq_acl.specs.Refused.{is_state, state_filter}
 use Rattle.mq_acl.specs.Rows.{AclRow}
 use Rattle.mq_acl.specs.Views.{row_view}
 use Rattle.mq_acl.specs.declared.row.Row.{Row}
-use Rattle.mq_cover.specs.Remainders.{covers, fits, hits, remainder_fits, remainders_fit}
+use Rattle.mq_cover.specs.Remainders.{MarkLevels, covers, fits, hits, remainder_fits}
+use Rattle.mq_cover.specs.Remainders.{remainders_fit}
 use Rattle.mq_cover.specs.declared.remainder.Remainder.{Remainder}
 use Rattle.mq_witness.specs.Decided.{concerns_in, decides_in}
+use Rattle.mq_witness.specs.Names.{are_begun, are_states, is_right, names_fit}
 use Rattle.mq_witness.specs.Roots.{all_begin, alike, left_begins, marks_of, rows_fit, same}
 use Rattle.mq_witness.specs.Roots.{AreCover, AreMust, NoneConcerned}
 use Rattle.mq_witness.specs.Rows.{lent_rows}
+use Rattle.mq_witness.specs.declared.names.Names.{Names}
 
 -- ---- the rows that are left
 -- the first of them
@@ -130,12 +136,78 @@ module _ {front : Bool} {user : Option (List ℕ)} {dollar : Bool} where
       → IsCoverSoFar front user dollar must rows behind rs
   cover_skip e none before = grind (arith, alike_parts)
 
+-- ---- the filter that names match
+states_cover : (marks : MarkLevels) (name : List ℕ) (text : Bor (List ℕ)) → text.now ≡ state_filter
+    → covers marks (levels name) (record { pattern = false; rest = Some text }) ≡ is_state name
+states_cover marks name text e =
+    ap (λ f. levels_match_by level_matches (levels f) (levels name)) e
+
+-- with a root of it the roots cover each name that matches it
+pub states_right : (names : Names) (marks : MarkLevels) (name : List ℕ) (text : Bor (List ℕ))
+    (rs all : List Remainder) → text.now ≡ state_filter → are_states names ≡ true
+    → all ≡ rs ++ record { pattern = false; rest = Some text } ∷ []
+    → list_all (covers marks (levels name)) all
+    ≡ (is_right names name && list_all (covers marks (levels name)) rs)
+states_right names marks name text rs all e are is =
+    ap (list_all (covers marks (levels name))) is
+    ∙ list_all-append (covers marks (levels name)) rs
+    (record { pattern = false; rest = Some text } ∷ [])
+    ∙ swapped (list_all (covers marks (levels name)) rs)
+    (covers marks (levels name) (record { pattern = false; rest = Some text }))
+    (states_cover marks name text e)
+    ∙ (λ i. (not (sym are i) || is_state name) && list_all (covers marks (levels name)) rs)
+  where
+    swapped : (b s : Bool) → s ≡ is_state name → (b && (s && true)) ≡ (is_state name && b)
+    swapped b s h = grind arith
+
+pub states_fit_too : (names : Names) (p : List ℕ → Bool) (text : Bor (List ℕ))
+    (rs all : List Remainder) → text.now ≡ state_filter → are_states names ≡ true
+    → all ≡ rs ++ record { pattern = false; rest = Some text } ∷ []
+    → remainders_fit p all ≡ (names_fit p names && remainders_fit p rs)
+states_fit_too names p text rs all e are is =
+    ap (remainders_fit p) is
+    ∙ list_all-append (remainder_fits p) rs (record { pattern = false; rest = Some text } ∷ [])
+    ∙ swapped (remainders_fit p rs) (fits p (levels text.now))
+    ∙ (λ i. (not (sym are i) || fits p (levels (e i))) && remainders_fit p rs)
+  where
+    swapped : (b s : Bool) → (b && (s && true)) ≡ (s && b)
+    swapped b s = grind arith
+
+state_begins : begins_with_dollar state_filter ≡ true
+unfolding state_filter
+state_begins = refl
+
+pub states_begin : (text : Bor (List ℕ)) (rs all : List Remainder) → text.now ≡ state_filter
+    → all ≡ rs ++ record { pattern = false; rest = Some text } ∷ [] → all_begin all ≡ all_begin rs
+states_begin text rs all e is =
+    ap all_begin is
+    ∙ list_all-append (λ r. left_begins r.rest) rs (record { pattern = false; rest = Some text } ∷ [])
+    ∙ (λ i. all_begin rs && ((ap begins_with_dollar e ∙ state_begins) i && true))
+    ∙ and-true (all_begin rs)
+
 -- ---- what is asked of the roots is what is asked of the rows
-pub roots_decide : (front : Bool) (user : Option (List ℕ)) (dollar : Bool)
-    (must cover : List AclRow) (rs ks : List Remainder) → AreMust front must user dollar rs
-    → AreCover front cover user dollar rs ks → (client name : List ℕ) (other : Option (List ℕ))
-    → alike other user must ≡ true → alike other user cover ≡ true
-    → begins_with_dollar name ≡ dollar → hits (marks_of client other) (levels name) rs ks
-    ≡ decides_in front client other name must cover
-roots_decide front user dollar must cover rs ks m k client name other like alike_cover kind =
-    grind arith
+pub roots_decide : (front : Bool) (user : Option (List ℕ)) (names : Names)
+    (must cover : List AclRow) (rs all ks : List Remainder)
+    → AreMust front must user (are_begun names) rs
+    → ((marks : MarkLevels) (name : List ℕ) → list_all (covers marks (levels name)) all
+    ≡ (is_right names name && list_all (covers marks (levels name)) rs))
+    → AreCover front cover user (are_begun names) all ks → (client name : List ℕ)
+    (other : Option (List ℕ)) → alike other user must ≡ true → alike other user cover ≡ true
+    → begins_with_dollar name ≡ are_begun names
+    → hits (marks_of client other) (levels name) all ks
+    ≡ (is_right names name && decides_in front client other name must cover)
+roots_decide front user names must cover rs all ks m a k client name other like alike_cover kind =
+    decided (list_all (covers (marks_of client other) (levels name)) all)
+    (list_any (covers (marks_of client other) (levels name)) ks) _ _ _
+    (a (marks_of client other) name
+    ∙ ap (λ b. is_right names name && b) (m.covers client name other like kind))
+    (k.covers client name other alike_cover kind)
+  where
+    decided : (all some right must cover : Bool) → all ≡ (right && must)
+        → (all ≡ true → some ≡ cover) → (all && not some) ≡ (right && (must && not cover))
+    decided true some true true cover e f = ap not (f refl)
+    decided true some true false cover e f = absurd (let n : true ≡ false = e in cc)
+    decided true some false must cover e f = absurd (let n : true ≡ false = e in cc)
+    decided false some true true cover e f = absurd (let n : false ≡ true = e in cc)
+    decided false some true false cover e f = refl
+    decided false some false must cover e f = refl

@@ -8,7 +8,8 @@ use Rattle.mq_topic.specs.Matching.{level_matches}
 use Rattle.mq_topic.specs.Texts.{is_name}
 use Rattle.mq_acl.specs.Access.{begins_with_dollar}
 use Rattle.mq_acl.specs.Rows.{AclRow}
-use Rattle.mq_cover.specs.Names.{can_be_level, is_choice, start_of}
+use Rattle.mq_acl.specs.declared.rules.Rules.{Rules}
+use Rattle.mq_cover.specs.Names.{can_be_level, is_choice}
 use Rattle.mq_cover.specs.Remainders.{FindsNothing, fits, hits, mark_passes, MarkLevels, passes}
 use Rattle.mq_cover.specs.declared.remainder.Remainder.{Remainder}
 use Rattle.mq_witness.specs.Answers.{Asks, IsHit}
@@ -16,10 +17,15 @@ use Rattle.mq_witness.specs.Decided.{decides}
 use Rattle.mq_witness.specs.Fresh.{is_literal}
 use Rattle.mq_witness.specs.FreshTexts.{AreLonger, AreShort, IsPadded, IsSeen}
 use Rattle.mq_witness.specs.Limits.{is_short, is_short_level, usable}
+use Rattle.mq_witness.specs.Names.{are_begun, has_front, is_one_of, is_right, names_readable}
+use Rattle.mq_witness.specs.Names.{start_at}
 use Rattle.mq_witness.specs.Roots.{NoneConcerned, marks_of, rows_fit}
 use Rattle.mq_witness.specs.Texts.{level_of}
-use Rattle.mq_witness.specs.Topics.{AreWithin, FindsNoTopic, IsReadyFor, IsTopic, level_marks}
+use Rattle.mq_witness.specs.Topics.{AreWithin, FindsNoTopic, IsReadyFor, IsTopic, IsTopicOf}
+use Rattle.mq_witness.specs.Topics.{level_marks}
 use Rattle.mq_witness.specs.declared.fresh.Fresh.{Fresh}
+use Rattle.mq_witness.specs.declared.names.Names.{Names}
+use Rattle.mq_witness.specs.declared.names.Names.TheVariants.{Plain}
 use Rattle.mq_witness.specs.declared.question.Question.{Question}
 use Rattle.mq_witness.specs.declared.texts.FreshTexts.{FreshTexts}
 use Rattle.mq_witness.proofs.AnswerLemmas.{alike_self, same_user}
@@ -28,7 +34,9 @@ use Rattle.mq_witness.proofs.FreshMoves.{literal_is_choice}
 use Rattle.mq_witness.proofs.LiteralLemmas.{fits_mono}
 use Rattle.mq_witness.proofs.MoveLemmas.{hits_same}
 use Rattle.mq_witness.proofs.TestLemmas.{all_by}
-use Rattle.mq_witness.proofs.NameLemmas.{name_is, name_suits}
+use Rattle.mq_witness.proofs.FrontLemmas.{begun_one, front_begun, one_begun, plain_readable}
+use Rattle.mq_witness.proofs.FrontLemmas.{readable_is, readable_taken, suits_front}
+use Rattle.mq_witness.proofs.NameLemmas.{name_is}
 use Rattle.mq_witness.proofs.ReadyLemmas.{short_is_name}
 
 -- ---- ids that can't be levels
@@ -54,41 +62,49 @@ both_hits client user ls can =
 
 -- ---- what a question answers
 -- where a row concerns none of the names
-pub no_topic : (client : List ℕ) (user : Option (List ℕ)) (dollar : Bool)
-    (must cover : List AclRow) → NoneConcerned false must user dollar → (name : List ℕ)
-    → is_name name ≡ true → begins_with_dollar name ≡ dollar
+pub no_topic : (client : List ℕ) (user : Option (List ℕ)) (names : Names)
+    (must cover : List AclRow) → NoneConcerned false must user (are_begun names) → (name : List ℕ)
+    → is_name name ≡ true → is_one_of names name ≡ true
     → decides client user name must cover ≡ false
-no_topic client user dollar must cover none name valid kind =
-    and_left _ _ (none client name user (alike_self user must) kind)
+no_topic client user names must cover none name valid kind =
+    and_left _ _ (none client name user (alike_self user must) (one_begun names name kind))
 
-module _ {f : Fresh} (client : List ℕ) {user : Option (List ℕ)} {dollar : Bool}
+module _ {f : Fresh} (client : List ℕ) {user : Option (List ℕ)} {names : Names}
     {must cover : List AclRow} {q : Question}
-    (asks : Asks false (record { plain = f; dollar = f }) user dollar must cover q) where
-  decided_is : (name : List ℕ) → is_name name ≡ true → begins_with_dollar name ≡ dollar
-      → decides client user name must cover
+    (asks : Asks false (record { plain = f; dollar = f }) user names must cover q) where
+  decided_is : (name : List ℕ) → is_name name ≡ true → begins_with_dollar name ≡ are_begun names
+      → (is_right names name && decides client user name must cover)
       ≡ hits (level_marks client user) (levels name) q.must.items q.cover.items
-  decided_is name valid kind =
-      sym (asks.decides client name user (alike_self user must) (alike_self user cover) kind)
+  decided_is name valid begun =
+      sym (asks.decides client name user (alike_self user must) (alike_self user cover) begun)
       ∙ both_hits client user (levels name) (name_is name valid).can q.must.items q.cover.items
 
   pub topic_missed : (marks : MarkLevels) → marks ≡ level_marks client user
-      → FindsNothing (start_of q.dollar) 200 marks q.must.items q.cover.items → (name : List ℕ)
-      → is_name name ≡ true → begins_with_dollar name ≡ dollar
+      → FindsNothing (start_at q.names) 200 marks q.must.items q.cover.items → (name : List ℕ)
+      → is_name name ≡ true → is_one_of names name ≡ true
       → decides client user name must cover ≡ false
   topic_missed marks e misses name valid kind =
       let is = name_is name valid in
-      decided_is name valid kind
+      let parts = and_parts (has_front names name) _ kind in
+      ap (λ b. b && decides client user name must cover) (sym parts.1)
+      ∙ decided_is name valid (front_begun names name parts.0)
       ∙ ap (λ (m : MarkLevels). hits m (levels name) q.must.items q.cover.items) (sym e)
-      ∙ misses (levels name) (name_suits name q.dollar is.some (kind ∙ sym asks.kind)) is.few
+      ∙ misses (levels name)
+      (suits_front q.names name is.some ∙ ap (λ n. has_front n name) asks.kind ∙ parts.0) is.few
 
   pub topic_hit : (marks : MarkLevels) → marks ≡ level_marks client user → (name : List ℕ)
-      → IsHit q marks name → IsTopic client user must cover name
-  topic_hit marks e name h = record {
-    valid = h.valid;
-    decided = decided_is name h.valid (h.kind ∙ asks.kind)
-        ∙ ap (λ (m : MarkLevels). hits m (levels name) q.must.items q.cover.items) (sym e)
-        ∙ h.hit;
-  }
+      → IsHit q marks name → IsTopicOf names client user must cover name
+  topic_hit marks e name h =
+      let front_is = ap (λ n. has_front n name) (sym asks.kind) ∙ h.kind in
+      let parts = and_parts (is_right names name) _
+      (decided_is name h.valid (front_begun names name front_is)
+      ∙ ap (λ (m : MarkLevels). hits m (levels name) q.must.items q.cover.items) (sym e)
+      ∙ h.hit) in
+      record {
+        valid = h.valid;
+        is_one = and_from _ _ front_is parts.0;
+        decided = parts.1;
+      }
 
 -- ---- longer texts
 short_size : AreShort is_short
@@ -131,14 +147,32 @@ module _ (longest : FreshTexts) (f : Fresh) (longer : AreLonger longest)
   }
 
 -- ---- both kinds of names
-pub both_kinds : (client : List ℕ) (user : Option (List ℕ)) (must cover : List AclRow)
-    → ((name : List ℕ) → is_name name ≡ true → begins_with_dollar name ≡ false
+pub both_kinds : (rules : Rules) (names : Names) (client : List ℕ) (user : Option (List ℕ))
+    (must cover : List AclRow) → names ≡ names_readable rules → ((name : List ℕ) → is_name name ≡ true → is_one_of Plain name ≡ true
     → decides client user name must cover ≡ false)
-    → ((name : List ℕ) → is_name name ≡ true → begins_with_dollar name ≡ true
+    → ((name : List ℕ) → is_name name ≡ true → is_one_of names name ≡ true
     → decides client user name must cover ≡ false)
-    → FindsNoTopic client user must cover
-both_kinds client user must cover plain dollar name valid =
+    → FindsNoTopic rules client user must cover
+both_kinds rules names client user must cover are plain begun name valid taken =
     elim (cases_Bool (begins_with_dollar name)) [
-      | inl e ↦ dollar name valid e
-      | inr e ↦ plain name valid e
+      | inl e ↦ begun name valid (ap (λ n. is_one_of n name) are ∙ readable_is rules name e taken)
+      | inr e ↦ plain name valid (begun_one false name e)
     ]
+
+pub plain_topic : (rules : Rules) {client : List ℕ} {user : Option (List ℕ)}
+    {must cover : List AclRow} {name : List ℕ} → IsTopicOf Plain client user must cover name
+    → IsTopic rules client user must cover name
+plain_topic rules {name = name} h = record {
+  valid = h.valid;
+  taken = plain_readable rules name h.is_one;
+  decided = h.decided;
+}
+
+pub readable_topic : (rules : Rules) (names : Names) {client : List ℕ} {user : Option (List ℕ)}
+    {must cover : List AclRow} {name : List ℕ} → names ≡ names_readable rules
+    → IsTopicOf names client user must cover name → IsTopic rules client user must cover name
+readable_topic rules names {name = name} are h = record {
+  valid = h.valid;
+  taken = readable_taken rules name (ap (λ n. is_one_of n name) (sym are) ∙ h.is_one);
+  decided = h.decided;
+}

@@ -3,14 +3,14 @@ use Rattle.std.proofs.Common.{◌≡◌, ℕ, ◌==◌, ◌≤◌, Bool, true, f
 use Rattle.std.proofs.Common.{length, Option, Some, None, codes, bytes_eq, refl, ap, sym, ◌∙◌, map}
 use Rattle.std.proofs.Common.{subst, if◌then◌else◌, inl, inr, arith, Bor}
 use Rattle.std.specs.List.{list_all, onto_first}
-use Rattle.std.proofs.lemmas.Bool.{and_parts, and_from, or_left, or_right, leb-true, not-true}
+use Rattle.std.proofs.lemmas.Bool.{and_parts, and_from, or_left, or_right, leb-true}
 use Rattle.std.proofs.lemmas.Bool.{le-leb, false_from_ne_true, cond_both, eqb-true}
 use Rattle.std.proofs.lemmas.Bool.Decides.{nat_tests}
 use Rattle.std.proofs.lemmas.List.{length-map}
 use Rattle.mq_topic.proofs.ByteLemmas.{text_is, text_itself, text_flip}
 use Rattle.mq_topic.specs.Matching.{is_wildcard, levels_match_by}
 use Rattle.mq_acl.specs.Access.{begins_with_dollar, is_user}
-use Rattle.mq_cover.specs.Names.{can_be_level, is_choice, is_name_level, start_of, suits}
+use Rattle.mq_cover.specs.Names.{can_be_level, is_choice, is_name_level, suits}
 use Rattle.mq_cover.specs.Remainders.{covers, hits, mark_passes, FindsNothing, MarkLevels, passes}
 use Rattle.mq_cover.specs.declared.remainder.Remainder.{Remainder}
 use Rattle.mq_cover.proofs.NameLemmas.{choice_is_level}
@@ -18,12 +18,15 @@ use Rattle.mq_cover.proofs.TextLemmas.{or_cases}
 use Rattle.mq_witness.specs.Clients.{can_be_id}
 use Rattle.mq_witness.specs.Fresh.{is_literal, IsFreshId}
 use Rattle.mq_witness.specs.Literals.{has_mark, is_literal_of, is_literal_in}
+use Rattle.mq_witness.specs.Names.{are_begun, start_at}
 use Rattle.mq_witness.specs.Ready.{CanAsk, is_front}
 use Rattle.mq_witness.specs.Roots.{all_begin, marks_of, left_begins}
 use Rattle.mq_witness.specs.Texts.{level_of}
 use Rattle.mq_witness.specs.Tried.{is_tried_client}
 use Rattle.mq_witness.specs.declared.fresh.Fresh.{Fresh}
-use Rattle.mq_witness.proofs.FreshMoves.{move, CanMove, StaysAtFront, literal_is, moved_client}
+use Rattle.mq_witness.specs.declared.names.Names.{Names}
+use Rattle.mq_witness.proofs.FreshMoves.{move, CanMove, StaysAtFront, has_ids, literal_is}
+use Rattle.mq_witness.proofs.FreshMoves.{moved_client}
 use Rattle.mq_witness.proofs.FreshMoves.{moved_kept, moved_user, move_keep, moved_by, no}
 use Rattle.mq_witness.proofs.FreshMoves.{suits_moved}
 use Rattle.mq_witness.proofs.LiteralLemmas.{level_is_no_wildcard, literals_pass}
@@ -142,22 +145,22 @@ module _ {f : Fresh} (must : List Remainder) (c : List ℕ) {keep user : List �
 
 -- ---- names
 -- a question, as far as its filters go
-module _ {f : Fresh} {dollar : Bool} {must cover : List Remainder}
-    (ask : CanAsk f dollar must cover) (c : List ℕ) {keep user : List ℕ → Bool}
+module _ {f : Fresh} {names : Names} {must cover : List Remainder}
+    (ask : CanAsk f names must cover) (c : List ℕ) {keep user : List ℕ → Bool}
     (can : CanMove f keep user (client_test must c))
     (keeps : (w : List ℕ) → is_literal_of w must ≡ true → keep w ≡ true)
     (nobody : must ≡ [] → (l : List ℕ) → user l ≡ false) where
   -- where all of the first filters cover a name, its first level stays where names begin with `$`
-  front_stays : (rs : List Remainder) → rs ≡ must → (b : Bool) → (u : Option (List ℕ)) (l : List ℕ)
-      (ls : List (List ℕ)) → is_front f b rs ≡ true
-      → list_all (covers (marks_of c u) (l ∷ ls)) rs ≡ true → StaysAtFront can b l
-  front_stays rs e false u l ls begin h = inr (inr (not-true _ begin))
-  front_stays rs e true u l ls begin h =
-      or_cases (begins_with_dollar f.client.now) _ begin (λ k. inr (inr k)) (named rs e h)
+  front_stays : (rs : List Remainder) → rs ≡ must → (b : Bool) → are_begun names ≡ b
+      → (u : Option (List ℕ)) (l : List ℕ) (ls : List (List ℕ)) → is_front f b rs ≡ true
+      → list_all (covers (marks_of c u) (l ∷ ls)) rs ≡ true → StaysAtFront can names l
+  front_stays rs e false b u l ls begin h = inr (inr (ap (has_ids f) b ∙ begin))
+  front_stays rs e true b u l ls begin h =
+      or_cases (has_ids f true) _ begin (λ k. inr (inr (ap (has_ids f) b ∙ k))) (named rs e h)
     where
       named : (rs : List Remainder) → rs ≡ must
           → list_all (covers (marks_of c u) (l ∷ ls)) rs ≡ true → all_begin rs ≡ true
-          → StaysAtFront can true l
+          → StaysAtFront can names l
       named [] e h g =
           inr (inl (nobody (sym e) l, ap (λ m. has_mark (codes "%c") m && bytes_eq l c) (sym e)))
       named (r ∷ rs) e h g = inl (keeps l (ap (is_literal_of l) (sym e)
@@ -167,18 +170,19 @@ module _ {f : Fresh} {dollar : Bool} {must cover : List Remainder}
   pub moved_hit : (u v : Option (List ℕ))
       → Moves (is_literal f) (move f keep user (client_test must c)) (marks_of c u)
       (marks_of (new_client f must (move f keep user (client_test must c)) c) v) must
-      → FindsNothing (start_of dollar) 200
+      → FindsNothing (start_at names) 200
       (marks_of (new_client f must (move f keep user (client_test must c)) c) v) must cover
-      → (ls : List (List ℕ)) → suits (start_of dollar) ls ≡ true → length ls ≤ 200
+      → (ls : List (List ℕ)) → suits (start_at names) ls ≡ true → length ls ≤ 200
       → hits (marks_of c u) ls must cover ≡ true → ⊥
   moved_hit u v moves none [] s few h = grind arith
   moved_hit u v moves none (l ∷ ls) s few h =
       let g = move f keep user (client_test must c) in
-      let stays = front_stays must refl dollar u l ls ask.begin (and_parts _ _ h).0 in
+      let stays = front_stays must refl (are_begun names) refl u l ls ask.begin (and_parts _ _ h).0
+      in
       let hit = hits_moved (is_literal f) (literal_is_no_wildcard f) g (marks_of c u)
       (marks_of (new_client f must g c) v) must cover (l ∷ ls) moves ask.must_fits ask.cover_fits
       h in
-      let miss = none (map g (l ∷ ls)) (suits_moved can dollar l ls stays s)
+      let miss = none (map g (l ∷ ls)) (suits_moved can names l ls stays s)
       (subst (λ k. k ≤ 200) (sym (length-map (l ∷ ls) g)) few) in
       let n : true ≡ false = sym hit ∙ miss in cc
 
@@ -189,8 +193,8 @@ kept_with must u l = is_literal_of l must || is_user l u
 abbrev pub is_nobody : List ℕ → Bool
 is_nobody l = false
 
-module _ {f : Fresh} {dollar : Bool} {must cover : List Remainder}
-    (ask : CanAsk f dollar must cover) (u : Option (List ℕ))
+module _ {f : Fresh} {names : Names} {must cover : List Remainder}
+    (ask : CanAsk f names must cover) (u : Option (List ℕ))
     (apart : mark_passes (is_literal f) u ≡ true) (c : List ℕ) where
   fixed_can : CanMove f (kept_with must u) is_nobody (client_test must c)
   fixed_can = grind (arith, literals_pass, user_passes)
@@ -217,13 +221,25 @@ module _ {f : Fresh} {dollar : Bool} {must cover : List Remainder}
           text_flip l x ∙ (moved_kept fixed_can x l p (text_flip x (fixed l) ∙ e)).1
 
   fixed_tried : can_be_id c ≡ true → is_tried_client f u must (new_client f must fixed c) ≡ true
-  fixed_tried id = grind (arith, text_itself)
+  fixed_tried id = cond_both (has_mark (codes "%c") must) (fixed c) f.client.now IsTried
+      (λ m. moved_by fixed_can IsTried c (λ k. or_right _ _ (and_from _ _ (and_from _ _ m
+      (or_flip (is_literal_of c must) (is_user c u) k)) id)) (λ n k. absurd (let e : false ≡ true =
+      k in cc)) (λ n k. fresh) (λ n k. no k (and_from _ _ m (text_itself c)))) (λ m. fresh)
+    where
+      IsTried : List ℕ → Type 0
+      IsTried t = is_tried_client f u must t ≡ true
+
+      fresh : IsTried f.client.now
+      fresh = or_left _ _ (text_itself f.client.now)
+
+      or_flip : (a b : Bool) → (a || b) ≡ true → (b || a) ≡ true
+      or_flip a b h = grind arith
 
   -- where no client id that is tried has a name, no client id has one
   pub fixed_none : can_be_id c ≡ true
       → ((t : List ℕ) → is_tried_client f u must t ≡ true
-      → FindsNothing (start_of dollar) 200 (marks_of t u) must cover)
-      → FindsNothing (start_of dollar) 200 (marks_of c u) must cover
+      → FindsNothing (start_at names) 200 (marks_of t u) must cover)
+      → FindsNothing (start_at names) 200 (marks_of c u) must cover
   fixed_none id none ls s few = false_from_ne_true (hits (marks_of c u) ls must cover)
       (moved_hit ask c fixed_can (λ w h. or_left _ _ h) (λ e l. refl) u u fixed_moves
       (none (new_client f must fixed c) (fixed_tried id)) ls s few)

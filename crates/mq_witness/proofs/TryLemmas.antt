@@ -22,6 +22,7 @@ use Rattle.mq_witness.specs.Texts.{level_of}
 use Rattle.mq_witness.specs.Tried.{is_tried_client, is_tried_user}
 use Rattle.mq_witness.specs.declared.fresh.Fresh.{Fresh}
 use Rattle.mq_witness.specs.declared.literals.Literals.{Literals}
+use Rattle.mq_witness.specs.declared.names.Names.{Names}
 use Rattle.mq_witness.specs.declared.question.Question.{Question}
 use Rattle.mq_witness.proofs.FreshMoves.{literal_is_choice}
 use Rattle.mq_witness.proofs.LiteralLemmas.{literals_pass}
@@ -59,8 +60,8 @@ among_at (x ∷ xs) (suc i) d h =
     or_right (bytes_eq (get_or xs i d).now x.now) _ (among_at xs i d (omega arith))
 
 -- ---- what is tried
-module _ {f : Fresh} {dollar : Bool} {must cover : List Remainder}
-    (ask : CanAsk f dollar must cover) where
+module _ {f : Fresh} {names : Names} {must cover : List Remainder}
+    (ask : CanAsk f names must cover) where
   -- what holds of the id that stands for others, of the user name and of what is named holds of each that is tried
   client_by : (P : List ℕ → Type 0) (u : Option (List ℕ)) (c : List ℕ)
       → is_tried_client f u must c ≡ true → P f.client.now → (is_user c u ≡ true → P c)

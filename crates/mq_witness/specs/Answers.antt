@@ -1,12 +1,11 @@
 -- What a question asks, and what it answers.
-use Rattle.std.specs.Prelude.{◌≡◌, ◌⊎◌, ℕ, Bool, true, false, List, Option, Some}
+use Rattle.std.specs.Prelude.{◌≡◌, ◌⊎◌, ◌&&◌, ℕ, Bool, true, false, List, Option, Some}
 use Rattle.std.specs.List.{list_all}
 use Rattle.std.specs.Option.{option_copied}
 use Rattle.mq_topic.specs.Levels.{levels}
 use Rattle.mq_topic.specs.Texts.{is_name}
 use Rattle.mq_acl.specs.Access.{begins_with_dollar}
 use Rattle.mq_acl.specs.Rows.{AclRow}
-use Rattle.mq_cover.specs.Names.{start_of}
 use Rattle.mq_cover.specs.Remainders.{MarkLevels, hits, mark_passes, marks_pass, remainders_fit}
 use Rattle.mq_cover.specs.Remainders.{FindsNothing}
 use Rattle.mq_witness.specs.Clients.{can_be_id, is_of, name_passes}
@@ -16,35 +15,38 @@ use Rattle.mq_witness.specs.Roots.{alike, marks_of, rows_fit}
 use Rattle.mq_witness.specs.Texts.{level_of}
 use Rattle.mq_witness.specs.Tried.{is_tried_client, is_tried_user}
 use Rattle.mq_witness.specs.Literals.{is_named}
+use Rattle.mq_witness.specs.Names.{are_begun, has_front, is_one_of, is_right, names_fit, start_at}
 use Rattle.mq_witness.specs.declared.clients.Clients.{Clients}
 use Rattle.mq_witness.specs.declared.fresh.BothFresh.{BothFresh}
 use Rattle.mq_witness.specs.declared.literals.Literals.{Literals}
+use Rattle.mq_witness.specs.declared.names.Names.{Names}
 use Rattle.mq_witness.specs.declared.question.Question.{Question}
 use Rattle.mq_witness.specs.declared.question.Found.{Found}
 
--- for all users that the rows apply to as to this one, and the names of this kind, it asks what is
--- asked of the rows
-pub record Asks (front : Bool) (both : BothFresh) (user : Option (List ℕ)) (dollar : Bool)
+-- for all users that the rows apply to as to this one, and names that begin as these do, it asks
+-- whether the name is one of them, and what is asked of the rows
+pub record Asks (front : Bool) (both : BothFresh) (user : Option (List ℕ)) (names : Names)
     (must cover : List AclRow) (q : Question) : Type 0 where
   pub fresh : (q.fresh ≡ both.plain) ⊎ (q.fresh ≡ both.dollar)
-  pub kind : q.dollar ≡ dollar
+  pub kind : q.names ≡ names
   pub decides : (client name : List ℕ) (other : Option (List ℕ)) → alike other user must ≡ true
-      → alike other user cover ≡ true → begins_with_dollar name ≡ dollar
+      → alike other user cover ≡ true → begins_with_dollar name ≡ are_begun names
       → hits (marks_of client other) (levels name) q.must.items q.cover.items
-      ≡ decides_in front client other name must cover
-  pub fit : (p : List ℕ → Bool) → rows_fit p must ≡ true → remainders_fit p q.must.items ≡ true
+      ≡ (is_right names name && decides_in front client other name must cover)
+  pub fit : (p : List ℕ → Bool) → rows_fit p must ≡ true → names_fit p names ≡ true
+      → remainders_fit p q.must.items ≡ true
 
 -- ---- an answer
 -- with this client id, and this level for a user name, there is no such name
 abbrev pub Misses : Question → List ℕ → Option (List ℕ) → Type 0
 Misses q client user =
-    FindsNothing (start_of q.dollar) 200 (marks_of client user) q.must.items q.cover.items
+    FindsNothing (start_at q.names) 200 (marks_of client user) q.must.items q.cover.items
 
 -- this is such a name, where the marks stand for these levels, and each of its levels passes what
 -- all texts that the question knows do
 pub record IsHit (q : Question) (marks : MarkLevels) (name : List ℕ) : Type 0 where
   pub valid : is_name name ≡ true
-  pub kind : begins_with_dollar name ≡ q.dollar
+  pub kind : has_front q.names name ≡ true
   pub hit : hits marks (levels name) q.must.items q.cover.items ≡ true
   pub known : (p : List ℕ → Bool) → fresh_pass p q.fresh ≡ true
       → remainders_fit p q.must.items ≡ true → marks_pass p marks ≡ true
@@ -54,7 +56,7 @@ pub record IsHit (q : Question) (marks : MarkLevels) (name : List ℕ) : Type 0 
 pub record Hits (q : Question) (client : List ℕ) (user : Option (List ℕ)) (name : List ℕ) :
     Type 0 where
   pub valid : is_name name ≡ true
-  pub kind : begins_with_dollar name ≡ q.dollar
+  pub kind : has_front q.names name ≡ true
   pub hit : hits (marks_of client user) (levels name) q.must.items q.cover.items ≡ true
   pub known : (p : List ℕ → Bool) → fresh_pass p q.fresh ≡ true
       → remainders_fit p q.must.items ≡ true → p client ≡ true → mark_passes p user ≡ true
@@ -97,14 +99,14 @@ pub record TextsPass (p : List ℕ → Bool) (found : Found) : Type 0 where
 
 -- a client that is asked about, and a topic that each of the first rows concerns and none of the
 -- others does
-pub record IsFoundBy (front dollar : Bool) (both : BothFresh) (listed : List ℕ → Bool)
+pub record IsFoundBy (front : Bool) (names : Names) (both : BothFresh) (listed : List ℕ → Bool)
     (clients : Clients) (must cover : List AclRow) (found : Found) : Type 0 where
   pub client_fits : can_be_id found.client.now ≡ true
   pub user_fits : is_of listed clients (option_copied found.user) ≡ true
   pub valid : is_name found.name ≡ true
-  pub kind : begins_with_dollar found.name ≡ dollar
+  pub kind : is_one_of names found.name ≡ true
   pub decided : decides_in front found.client.now (option_copied found.user) found.name must cover
       ≡ true
   pub known : (p : List ℕ → Bool) → fresh_pass p both.plain ≡ true
-      → fresh_pass p both.dollar ≡ true → rows_fit p must ≡ true → name_passes p clients ≡ true
-      → TextsPass p found
+      → fresh_pass p both.dollar ≡ true → rows_fit p must ≡ true → names_fit p names ≡ true
+      → name_passes p clients ≡ true → TextsPass p found

@@ -8,16 +8,20 @@ use Rattle.std.specs.declared.alloc.Global.{Global}
 use Rattle.mq_topic.specs.Levels.{levels}
 use Rattle.mq_topic.specs.Texts.{is_name}
 use Rattle.mq_acl.specs.Access.{begins_with_dollar}
+use Rattle.mq_acl.specs.Refused.{state_filter}
 use Rattle.mq_acl.specs.Rows.{AclRow}
 use Rattle.mq_acl.specs.declared.rules.Rules.{Rules}
 use Rattle.mq_cover.specs.Names.{can_be_level}
 use Rattle.mq_cover.specs.Remainders.{mark_passes}
 use Rattle.mq_witness.specs.Clients.{can_be_id, is_of, name_passes}
 use Rattle.mq_witness.specs.Decided.{decides, decides_in}
+use Rattle.mq_witness.specs.Names.{is_one_of}
+use Rattle.mq_witness.specs.Literals.{is_literal_in}
 use Rattle.mq_witness.specs.Rows.{is_user_of, rows_name}
 use Rattle.mq_witness.specs.Swaps.{swap, swap_user, swap_name}
 use Rattle.mq_witness.specs.declared.clients.Clients.{Clients}
 use Rattle.mq_witness.specs.declared.clients.Clients.TheVariants.{Anonymous, Named, Others}
+use Rattle.mq_witness.specs.declared.names.Names.{Names}
 use Rattle.mq_witness.specs.declared.witness.Witness.{Witness}
 
 -- the rows of all lists, their rules, and the texts that stand for those that no row names
@@ -45,13 +49,11 @@ FindsNone asked clients must cover = (client name : List ℕ) (user : Option (Li
     → can_be_id client ≡ true → is_client_of asked clients user ≡ true → is_name name ≡ true
     → decides client user name must cover ≡ false
 
--- the same of topics that begin with `$`, or of the others, where a text in the place of a mark counts for the rule on
--- `$`, or doesn't
-abbrev pub FindsNoneIn : (front dollar : Bool) → AskedRows → Clients → (must cover : List AclRow)
-    → Type 0
-FindsNoneIn front dollar asked clients must cover = (client name : List ℕ)
+-- the same of these topics, where a text in the place of a mark counts for the rule on `$`, or doesn't
+abbrev pub FindsNoneIn : Bool → Names → AskedRows → Clients → (must cover : List AclRow) → Type 0
+FindsNoneIn front names asked clients must cover = (client name : List ℕ)
     (user : Option (List ℕ)) → can_be_id client ≡ true → is_client_of asked clients user ≡ true
-    → is_name name ≡ true → begins_with_dollar name ≡ dollar
+    → is_name name ≡ true → is_one_of names name ≡ true
     → decides_in front client user name must cover ≡ false
 
 -- of this client each first row concerns this topic and no other does
@@ -92,9 +94,14 @@ abbrev pub ShowsOthers : AskedRows → Clients → (must cover : List AclRow) �
 ShowsOthers asked clients must cover client user name =
     ShowsOthersIn false asked clients must cover client user name
 
--- a row names the text, or it is a placeholder
+-- it is a level of the states of bridges, which clients may write by mosquitto's rules
+abbrev pub is_state_level : List ℕ → Bool
+is_state_level text = is_literal_in text (levels state_filter)
+
+-- a row names the text, or it is a placeholder, or a level of those states
 abbrev pub is_known : AskedRows → List ℕ → Bool
-is_known asked text = rows_name text asked.rows || is_placeholder text asked
+is_known asked text =
+    rows_name text asked.rows || is_placeholder text asked || is_state_level text
 
 -- so it is of the client id, the user name and each level of the topic
 pub record AreKnown (asked : AskedRows) (client : List ℕ) (user : Option (List ℕ))

@@ -2,7 +2,11 @@
 use Rattle.std.specs.Prelude.{◌≡◌, ℕ, Bool, true, false, List, length, ◌&&◌, not, ◌==◌}
 use Rattle.std.specs.Str.{bytes_eq}
 use Rattle.mq_acl.specs.Access.{begins_with_dollar}
-use Rattle.mq_cover.specs.Names.{are_others, is_choice}
+use Rattle.mq_topic.specs.Levels.{levels}
+use Rattle.mq_acl.specs.Refused.{state_filter}
+use Rattle.mq_cover.specs.Names.{are_others, fits_start, is_choice}
+use Rattle.mq_cover.specs.Remainders.{fits}
+use Rattle.mq_cover.specs.declared.start.Start.TheVariants.{Writable}
 use Rattle.mq_witness.specs.declared.fresh.BothFresh.{BothFresh}
 use Rattle.mq_witness.specs.declared.fresh.Fresh.{Fresh}
 
@@ -20,15 +24,18 @@ pub record IsFreshId (f : Fresh) (id : List ℕ) : Type 0 where
   pub choice : is_choice f.others id ≡ true
   pub some : (length id == 0) ≡ false
 
--- each can be a level where it is to stand, no two are the same, and both ids begin with `$`, or neither does
+-- each can be a level where it is to stand, no two are the same, both ids begin with `$` as no name that the broker
+-- refuses does, or neither does, and none is a level of the states of bridges
 pub record AreFresh (f : Fresh) : Type 0 where
   pub others : are_others f.others ≡ true
   pub client : IsFreshId f f.client.now
   pub user : IsFreshId f f.user.now
   pub apart : bytes_eq f.user.now f.client.now ≡ false
   pub begin : begins_with_dollar f.user.now ≡ begins_with_dollar f.client.now
+  pub front : fits_start Writable f.user.now ≡ fits_start Writable f.client.now
+  pub states : fits (is_literal f) (levels state_filter) ≡ true
 
 -- the ids of the one begin with no `$`; those of the other do, where that counts
 abbrev pub BeginSo : Bool → BothFresh → Type 0
 BeginSo front both = (begins_with_dollar both.plain.client.now ≡ false)
-    × (front ≡ true → begins_with_dollar both.dollar.client.now ≡ true)
+    × (front ≡ true → fits_start Writable both.dollar.client.now ≡ true)

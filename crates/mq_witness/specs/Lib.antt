@@ -2,6 +2,7 @@ pub mod Texts
 pub mod Literals
 pub mod Rows
 pub mod Clients
+pub mod Names
 pub mod Decided
 pub mod Swaps
 pub mod Asked

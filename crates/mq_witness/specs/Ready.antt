@@ -6,13 +6,16 @@ use Rattle.std.specs.Str.{bytes_eq}
 use Rattle.mq_acl.specs.Access.{begins_with_dollar}
 use Rattle.mq_acl.specs.Rows.{Who, AclRow}
 use Rattle.mq_acl.specs.Rows as rows
+use Rattle.mq_cover.specs.Names.{fits_start}
 use Rattle.mq_cover.specs.Remainders.{mark_passes, remainders_fit}
 use Rattle.mq_cover.specs.declared.remainder.Remainder.{Remainder}
+use Rattle.mq_cover.specs.declared.start.Start.TheVariants.{Writable}
 use Rattle.mq_witness.specs.Clients.{can_be_id}
 use Rattle.mq_witness.specs.Fresh.{is_literal, AreFresh, BeginSo}
 use Rattle.mq_witness.specs.FreshTexts.{AreLonger, IsSeen, fresh_texts}
 use Rattle.mq_witness.specs.Limits.{usable}
 use Rattle.mq_witness.specs.Literals.{is_named}
+use Rattle.mq_witness.specs.Names.{are_begun}
 use Rattle.mq_witness.specs.Roots.{all_begin, rows_fit}
 use Rattle.mq_witness.specs.Rows.{is_user_of, rows_name}
 use Rattle.mq_witness.specs.Texts.{level_of}
@@ -21,6 +24,7 @@ use Rattle.mq_witness.specs.declared.clients.Clients.TheVariants.{Anonymous, Nam
 use Rattle.mq_witness.specs.declared.fresh.BothFresh.{BothFresh}
 use Rattle.mq_witness.specs.declared.fresh.Fresh.{Fresh}
 use Rattle.mq_witness.specs.declared.literals.Literals.{Literals}
+use Rattle.mq_witness.specs.declared.names.Names.{Names}
 use Rattle.mq_witness.specs.declared.texts.FreshTexts.{FreshTexts}
 
 -- ---- lists that can be asked
@@ -40,7 +44,7 @@ pub record CanAnswer (asked : List AclRow) (texts dollar longest : FreshTexts) (
   pub asked_can : CanBeAsked asked texts users
   pub dollar_can : CanBeAsked asked dollar users
   pub begin : begins_with_dollar (string_bytes texts.client) ≡ false
-  pub dollar_begin : begins_with_dollar (string_bytes dollar.client) ≡ true
+  pub dollar_begin : fits_start Writable (string_bytes dollar.client) ≡ true
   pub all_usable : list_all usable asked ≡ true
   pub longer : AreLonger longest
 
@@ -94,14 +98,15 @@ pub record AreReady (front : Bool) (both : BothFresh) (users : Literals) (client
   pub begin : BeginSo front both
 
 -- ---- a question
--- the ids that stand for others begin with `$` just where the names do, or all of the first rows do
+-- the ids that stand for others begin with `$` just where the names do, and then as no name that the broker refuses
+-- does; or all of the first rows begin with `$`
 abbrev pub is_front : Fresh → Bool → List Remainder → Bool
-is_front f true must = begins_with_dollar f.client.now || all_begin must
+is_front f true must = fits_start Writable f.client.now || all_begin must
 is_front f false must = not (begins_with_dollar f.client.now)
 
 -- no row names one of the texts that stand for others
-pub record CanAsk (f : Fresh) (dollar : Bool) (must cover : List Remainder) : Type 0 where
+pub record CanAsk (f : Fresh) (names : Names) (must cover : List Remainder) : Type 0 where
   pub fresh : AreFresh f
   pub must_fits : remainders_fit (is_literal f) must ≡ true
   pub cover_fits : remainders_fit (is_literal f) cover ≡ true
-  pub begin : is_front f dollar must ≡ true
+  pub begin : is_front f (are_begun names) must ≡ true

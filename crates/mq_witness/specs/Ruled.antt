@@ -14,8 +14,10 @@ use Rattle.mq_cover.specs.Names.{can_be_level}
 use Rattle.mq_cover.specs.Remainders.{mark_passes}
 use Rattle.mq_witness.specs.Asked.{AskedRows, StandsFor, is_client_of, user_view}
 use Rattle.mq_witness.specs.Clients.{can_be_id}
+use Rattle.mq_witness.specs.Names.{refused_of}
 use Rattle.mq_witness.specs.Swaps.{swap, swap_name, swap_user}
 use Rattle.mq_witness.specs.declared.clients.Clients.{Clients}
+use Rattle.mq_witness.specs.declared.topics.Topics.{Topics}
 use Rattle.mq_witness.specs.declared.witness.Witness.{Witness}
 
 -- each of the first rows concerns it, and none of the others does
@@ -45,30 +47,35 @@ pub record IsAskedOf (asked : AskedRows) (clients : Clients) (client : List ℕ)
   pub user_fits : is_client_of asked clients user ≡ true
   pub are_asked : are_asked_of asked.rules asked.rows client user ≡ true
 
--- of no client that is asked about, each first row concerns a topic that begins with `$`, or doesn't, and no other row
--- does
-abbrev pub FindsNoneBy : (dollar : Bool) → AskedRows → Clients → (must cover : List AclRow) → Type 0
-FindsNoneBy dollar asked clients must cover = (client name : List ℕ) (user : Option (List ℕ))
-    → IsAskedOf asked clients client user → is_name name ≡ true
-    → begins_with_dollar name ≡ dollar
+-- of no client that is asked about, each first row concerns one of these topics that begins with `$`, or doesn't, and no
+-- other row does
+abbrev pub FindsNoneBy : (dollar : Bool) → Topics → AskedRows → Clients
+    → (must cover : List AclRow) → Type 0
+FindsNoneBy dollar topics asked clients must cover = (client name : List ℕ)
+    (user : Option (List ℕ)) → IsAskedOf asked clients client user → is_name name ≡ true
+    → begins_with_dollar name ≡ dollar → refused_of asked.rules topics name ≡ false
     → decides_by asked.rules client user name must cover ≡ false
 
--- of this client each first row concerns this topic and no other does
-pub record IsShownBy (asked : AskedRows) (clients : Clients) (must cover : List AclRow)
-    (client : List ℕ) (user : Option (List ℕ)) (name : List ℕ) : Type 0 where
-  pub is_asked : IsAskedOf asked clients client user
-  pub valid : is_name name ≡ true
-  pub decided : decides_by asked.rules client user name must cover ≡ true
+-- of this client each first row concerns this topic, which is one of these, and no other does
+pub record IsShownBy (topics : Topics) (asked : AskedRows) (clients : Clients)
+    (must cover : List AclRow) (client : List ℕ) (user : Option (List ℕ)) (name : List ℕ) : Type 0
+  where
+    pub is_asked : IsAskedOf asked clients client user
+    pub valid : is_name name ≡ true
+    pub taken : refused_of asked.rules topics name ≡ false
+    pub decided : decides_by asked.rules client user name must cover ≡ true
 
-abbrev pub ShowsBy : AskedRows → Clients → (must cover : List AclRow) → Witness → Type 0
-ShowsBy asked clients must cover w =
-    IsShownBy asked clients must cover (string_bytes w.client) (user_view w.user) w.name
+abbrev pub ShowsBy : Topics → AskedRows → Clients → (must cover : List AclRow) → Witness → Type 0
+ShowsBy topics asked clients must cover w =
+    IsShownBy topics asked clients must cover (string_bytes w.client) (user_view w.user) w.name
 
--- what is shown is shown too with any text in the place of one that stands for it, where the topic isn't too long then
-abbrev pub StandsBy : AskedRows → Clients → (must cover : List AclRow) → Witness → Type 0
-StandsBy asked clients must cover w = (text other : List ℕ) → StandsFor asked text other
+-- what is shown is shown too with any text in the place of one that stands for it, where the topic isn't too long then,
+-- and is one of these
+abbrev pub StandsBy : Topics → AskedRows → Clients → (must cover : List AclRow) → Witness → Type 0
+StandsBy topics asked clients must cover w = (text other : List ℕ) → StandsFor asked text other
     → is_name (swap_name text other w.name) ≡ true
-    → IsShownBy asked clients must cover (swap text other (string_bytes w.client))
+    → refused_of asked.rules topics (swap_name text other w.name) ≡ false
+    → IsShownBy topics asked clients must cover (swap text other (string_bytes w.client))
     (swap_user text other (user_view w.user)) (swap_name text other w.name)
 
 -- ---- the limit

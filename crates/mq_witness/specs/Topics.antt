@@ -3,27 +3,41 @@ use Rattle.std.specs.Prelude.{◌≡◌, ℕ, true, false, List, Option, Some, �
 use Rattle.std.specs.List.{list_all}
 use Rattle.mq_topic.specs.Texts.{is_name}
 use Rattle.mq_acl.specs.Access.{begins_with_dollar}
+use Rattle.mq_acl.specs.Refused.{refuses}
 use Rattle.mq_acl.specs.Rows.{AclRow}
+use Rattle.mq_acl.specs.declared.access.Direction.TheVariants.{Reading}
+use Rattle.mq_acl.specs.declared.rules.Rules.{Rules}
 use Rattle.mq_cover.specs.Names.{is_choice}
 use Rattle.mq_cover.specs.Remainders.{MarkLevels, mark_passes, marks_pass}
 use Rattle.mq_witness.specs.Decided.{decides}
 use Rattle.mq_witness.specs.Limits.{has_short_levels, is_short, is_short_level}
+use Rattle.mq_witness.specs.Names.{is_one_of}
 use Rattle.mq_witness.specs.Ready.{NamesNone}
 use Rattle.mq_witness.specs.Roots.{rows_fit}
 use Rattle.mq_witness.specs.Texts.{level_of}
 use Rattle.mq_witness.specs.declared.fault.LimitFault.{LimitFault}
 use Rattle.mq_witness.specs.declared.fault.LimitFault.TheVariants as limit
 use Rattle.mq_witness.specs.declared.fresh.Fresh.{Fresh}
+use Rattle.mq_witness.specs.declared.names.Names.{Names}
 
--- of no topic do all first rows, and none of the others, concern what the client does
-abbrev pub FindsNoTopic : List ℕ → Option (List ℕ) → (must cover : List AclRow) → Type 0
-FindsNoTopic client user must cover = (name : List ℕ) → is_name name ≡ true
-    → decides client user name must cover ≡ false
+-- of no topic that clients may read by these rules do all first rows, and none of the others, concern
+-- what the client does
+abbrev pub FindsNoTopic : Rules → List ℕ → Option (List ℕ) → (must cover : List AclRow) → Type 0
+FindsNoTopic rules client user must cover = (name : List ℕ) → is_name name ≡ true
+    → refuses rules Reading name ≡ false → decides client user name must cover ≡ false
 
 -- of this topic they do
-pub record IsTopic (client : List ℕ) (user : Option (List ℕ)) (must cover : List AclRow)
-    (name : List ℕ) : Type 0 where
+pub record IsTopic (rules : Rules) (client : List ℕ) (user : Option (List ℕ))
+    (must cover : List AclRow) (name : List ℕ) : Type 0 where
   pub valid : is_name name ≡ true
+  pub taken : refuses rules Reading name ≡ false
+  pub decided : decides client user name must cover ≡ true
+
+-- of this topic, one of these names, they do
+pub record IsTopicOf (names : Names) (client : List ℕ) (user : Option (List ℕ))
+    (must cover : List AclRow) (name : List ℕ) : Type 0 where
+  pub valid : is_name name ≡ true
+  pub is_one : is_one_of names name ≡ true
   pub decided : decides client user name must cover ≡ true
 
 -- ---- the limit

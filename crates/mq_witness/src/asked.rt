@@ -14,6 +14,7 @@ ghost use Rattle.mq_witness.specs.Asked.{AreLevels, FindsNone, FindsNoneIn, IsLi
 ghost use Rattle.mq_witness.specs.Asked.{ShowsIn, Stands, StandsIn, is_placeholder};
 ghost use Rattle.mq_witness.specs.Limits.{IsFault, long_line};
 ghost use Rattle.mq_witness.specs.Literals.{is_among, is_named};
+ghost use Rattle.mq_witness.specs.Names.{is_one_of};
 ghost use Rattle.mq_witness.specs.Rows.{all_rows, is_user_of, lent_rows, rows_name};
 ghost use Rattle.mq_witness.specs.Topics.{FindsNoTopic, IsLimitFault, IsTopic};
 ghost use Rattle.std.specs.Option.{option_copied};
@@ -24,11 +25,13 @@ use crate::fresh::BothFresh;
 use crate::ids::can_be_level;
 use crate::limits::{first_long, limit_fault};
 use crate::literals::Literals;
+use crate::names::{Names, has_states};
 use crate::one::OneClient;
 use crate::patterns::{has_patterns, marked};
 use crate::question::Found;
 use crate::search::Search;
 use crate::texts::FreshTexts;
+use crate::topics::Topics;
 use crate::witness::Witness;
 use mq_acl::{Row, Rules};
 use mq_topic::TopicName;
@@ -197,19 +200,19 @@ impl<'a> Asked<'a> {
         ensures stands { IfOk result (λ found. IfSome found (Stands self.entry.now clients.entry
             (lent_rows must.entry.now) (lent_rows cover.entry.now))) }
     {
-        if let Some(found) = self.find_in(alloc, false, false, clients, must, cover)? {
+        if let Some(found) = self.find_in(alloc, false, Names::Plain, clients, must, cover)? {
             return Ok(Some(found));
         }
-        self.find_in(alloc, false, true, clients, must, cover)
+        self.find_in(alloc, false, Names::Dollar, clients, must, cover)
     }
 
-    /// The same of topics that begin with `$`, or of the others, where a text in the place of a
-    /// mark counts for the rule on `$`, or doesn't.
+    /// The same of these topics, where a text in the place of a mark counts for the rule on `$`, or
+    /// doesn't.
     fn find_in<'q>(
         &'q self,
         alloc: Global,
         front: bool,
-        dollar: bool,
+        names: Names,
         clients: Clients<'q>,
         must: &'q [&'q Row],
         cover: &'q [&'q Row],
@@ -217,12 +220,12 @@ impl<'a> Asked<'a> {
         requires user { IsListed self.now clients }
         requires must { All (Contains self.now.rows) (lent_rows must.now) }
         requires cover { All (Contains self.now.rows) (lent_rows cover.now) }
-        ensures none { IfOk result (λ found. IfNone found (FindsNoneIn front dollar self.entry.now
+        ensures none { IfOk result (λ found. IfNone found (FindsNoneIn front names self.entry.now
             clients.entry (lent_rows must.entry.now) (lent_rows cover.entry.now))) }
         ensures some { IfOk result (λ found. IfSome found (ShowsIn front self.entry.now
             clients.entry (lent_rows must.entry.now) (lent_rows cover.entry.now))) }
         ensures kind { IfOk result (λ found. IfSome found (λ w.
-            begins_with_dollar w.name ≡ dollar)) }
+            is_one_of names w.name ≡ true)) }
         ensures levels { IfOk result (λ found. IfSome found (AreLevels clients.entry)) }
         ensures known { IfOk result (λ found. IfSome found (Knows self.entry.now)) }
         ensures stands { IfOk result (λ found. IfSome found (StandsIn front self.entry.now
@@ -239,7 +242,7 @@ impl<'a> Asked<'a> {
             must,
             cover,
         };
-        match search.answer(alloc, dollar)? {
+        match search.answer(alloc, names)? {
             Some(found) => Ok(Some(found.show(alloc)?)),
             None => Ok(None),
         }
@@ -253,33 +256,34 @@ impl<'a> Asked<'a> {
         self.patterns && !has_level(clients)
     }
 
-    /// A client and a topic that begins with `$`, or doesn't, that each row of `must` concerns by
-    /// the rules of the lists and no row of `cover` does; or that there is none: of all client ids
-    /// and user names that `is_asked_of` says, and all topic names.
+    /// A client and one of these topics that begins with `$`, or doesn't, that each row of `must`
+    /// concerns by the rules of the lists and no row of `cover` does; or that there is none: of all
+    /// client ids and user names that `is_asked_of` says, and all topic names.
     pub fn find_kind<'q>(
         &'q self,
         alloc: Global,
         clients: Clients<'q>,
         dollar: bool,
+        topics: Topics,
         must: &'q [&'q Row],
         cover: &'q [&'q Row],
     ) -> Result<Option<Witness>, AllocError>
         requires user { IsListed self.now clients }
         requires must { All (Contains self.now.rows) (lent_rows must.now) }
         requires cover { All (Contains self.now.rows) (lent_rows cover.now) }
-        ensures none { IfOk result (λ found. IfNone found (FindsNoneBy dollar self.entry.now
-            clients.entry (lent_rows must.entry.now) (lent_rows cover.entry.now))) }
-        ensures some { IfOk result (λ found. IfSome found (ShowsBy self.entry.now
+        ensures none { IfOk result (λ found. IfNone found (FindsNoneBy dollar topics
+            self.entry.now clients.entry (lent_rows must.entry.now) (lent_rows cover.entry.now))) }
+        ensures some { IfOk result (λ found. IfSome found (ShowsBy topics self.entry.now
             clients.entry (lent_rows must.entry.now) (lent_rows cover.entry.now))) }
         ensures kind { IfOk result (λ found. IfSome found (λ w.
             begins_with_dollar w.name ≡ dollar)) }
         ensures known { IfOk result (λ found. IfSome found (Knows self.entry.now)) }
-        ensures stands { IfOk result (λ found. IfSome found (StandsBy self.entry.now
+        ensures stands { IfOk result (λ found. IfSome found (StandsBy topics self.entry.now
             clients.entry (lent_rows must.entry.now) (lent_rows cover.entry.now))) }
     {
         match self.rules {
-            Rules::Own => self.find_in(alloc, false, dollar, clients, must, cover),
-            Rules::Mosquitto => self.find_level(alloc, clients, dollar, must, cover),
+            Rules::Own => self.find_in(alloc, false, Names::begun(dollar), clients, must, cover),
+            Rules::Mosquitto => self.find_level(alloc, clients, dollar, topics, must, cover),
         }
     }
 
@@ -289,6 +293,7 @@ impl<'a> Asked<'a> {
         alloc: Global,
         clients: Clients<'q>,
         dollar: bool,
+        topics: Topics,
         must: &'q [&'q Row],
         cover: &'q [&'q Row],
     ) -> Result<Option<Witness>, AllocError>
@@ -296,38 +301,47 @@ impl<'a> Asked<'a> {
         requires user { IsListed self.now clients }
         requires must { All (Contains self.now.rows) (lent_rows must.now) }
         requires cover { All (Contains self.now.rows) (lent_rows cover.now) }
-        ensures none { IfOk result (λ found. IfNone found (FindsNoneBy dollar self.entry.now
-            clients.entry (lent_rows must.entry.now) (lent_rows cover.entry.now))) }
-        ensures some { IfOk result (λ found. IfSome found (ShowsBy self.entry.now
+        ensures none { IfOk result (λ found. IfNone found (FindsNoneBy dollar topics
+            self.entry.now clients.entry (lent_rows must.entry.now) (lent_rows cover.entry.now))) }
+        ensures some { IfOk result (λ found. IfSome found (ShowsBy topics self.entry.now
             clients.entry (lent_rows must.entry.now) (lent_rows cover.entry.now))) }
         ensures kind { IfOk result (λ found. IfSome found (λ w.
             begins_with_dollar w.name ≡ dollar)) }
         ensures known { IfOk result (λ found. IfSome found (Knows self.entry.now)) }
-        ensures stands { IfOk result (λ found. IfSome found (StandsBy self.entry.now
+        ensures stands { IfOk result (λ found. IfSome found (StandsBy topics self.entry.now
             clients.entry (lent_rows must.entry.now) (lent_rows cover.entry.now))) }
     {
         let _ = &self.lists;
         if self.passes_over(clients) {
             return Ok(None);
         }
-        self.find_in(alloc, true, dollar, clients, must, cover)
+        let names = Names::of(dollar, topics);
+        if let Some(found) = self.find_in(alloc, true, names, clients, must, cover)? {
+            return Ok(Some(found));
+        }
+        if !has_states(dollar, topics) {
+            return Ok(None);
+        }
+        self.find_in(alloc, true, Names::States, clients, must, cover)
     }
 
     /// A topic that each row of `must` concerns and no row of `cover` does for the client with this client id, and with
-    /// this user name or none; or that there is none, of all topic names. Neither they nor `must` need be named by the
-    /// lists. It takes a few steps for each row of `cover`, and more only for those that may concern what `must` does.
+    /// this user name or none; or that there is none, of all topic names that clients may read by these rules
+    /// (`mq_acl::refuses`). Neither they nor `must` need be named by the lists. It takes a few steps for each row of
+    /// `cover`, and more only for those that may concern what `must` does.
     pub fn find_topic<'q>(
         &'q self,
         alloc: Global,
+        rules: Rules,
         client: &'q str,
         user: Option<&'q str>,
         must: &'q [&'q Row],
         cover: &'q [&'q Row],
     ) -> Result<Option<TopicName>, LimitFault>
         requires cover { All (Contains self.now.rows) (lent_rows cover.now) }
-        ensures none { IfOk result (λ found. IfNone found (FindsNoTopic client.entry.now
+        ensures none { IfOk result (λ found. IfNone found (FindsNoTopic rules client.entry.now
             (option_copied user.entry) (lent_rows must.entry.now) (lent_rows cover.entry.now))) }
-        ensures some { IfOk result (λ found. IfSome found (IsTopic client.entry.now
+        ensures some { IfOk result (λ found. IfSome found (IsTopic rules client.entry.now
             (option_copied user.entry) (lent_rows must.entry.now) (lent_rows cover.entry.now))) }
         ensures fault { IfErr result (IsLimitFault client.entry.now (option_copied user.entry)
             (lent_rows must.entry.now)) }
@@ -342,10 +356,10 @@ impl<'a> Asked<'a> {
             must,
             cover,
         };
-        if let Some(topic) = one.topic(alloc, false)? {
+        if let Some(topic) = one.topic(alloc, Names::Plain)? {
             return Ok(Some(topic));
         }
-        let topic = one.topic(alloc, true)?;
+        let topic = one.topic(alloc, Names::readable(rules))?;
         Ok(topic)
     }
 }

@@ -2,13 +2,14 @@
 ghost use Rattle.std.specs.Prelude.{◌≡◌, ℕ, List, true, false, IfOk, IfNone, IfSome};
 ghost use Rattle.std.specs.Option.{option_copied};
 ghost use Rattle.mq_topic.specs.Texts.{is_name};
-ghost use Rattle.mq_acl.specs.Access.{begins_with_dollar};
 ghost use Rattle.mq_witness.specs.Decided.{decides};
 ghost use Rattle.mq_witness.specs.Rows.{lent_rows};
-ghost use Rattle.mq_witness.specs.Topics.{IsReadyFor, IsTopic};
+ghost use Rattle.mq_witness.specs.Names.{is_one_of};
+ghost use Rattle.mq_witness.specs.Topics.{IsReadyFor, IsTopicOf};
 
 use crate::fresh::{BothFresh, Fresh};
 use crate::ids::level_of;
+use crate::names::Names;
 use crate::pose::pose;
 use mq_acl::Row;
 use mq_cover::Marks;
@@ -28,14 +29,14 @@ pub(crate) struct OneClient<'a> {
 }
 
 impl OneClient<'_> {
-    /// A topic that begins with `$`, or doesn't, that each of the first rows concerns and none of
-    /// the others does; or that there is none.
-    pub fn topic(&self, alloc: Global, dollar: bool) -> Result<Option<TopicName>, AllocError>
+    /// One of these names that each of the first rows concerns and none of the others does; or that
+    /// there is none.
+    pub fn topic(&self, alloc: Global, names: Names) -> Result<Option<TopicName>, AllocError>
         ensures none { IfOk result (λ found. IfNone found ((name : List ℕ)
-            → is_name name ≡ true → begins_with_dollar name ≡ dollar
+            → is_name name ≡ true → is_one_of names name ≡ true
             → decides self.now.client.now (option_copied self.now.user) name
             (lent_rows self.now.must.now) (lent_rows self.now.cover.now) ≡ false)) }
-        ensures some { IfOk result (λ found. IfSome found (IsTopic self.now.client.now
+        ensures some { IfOk result (λ found. IfSome found (IsTopicOf names self.now.client.now
             (option_copied self.now.user) (lent_rows self.now.must.now)
             (lent_rows self.now.cover.now))) }
     {
@@ -43,9 +44,7 @@ impl OneClient<'_> {
             plain: self.fresh,
             dollar: self.fresh,
         };
-        let posed = pose(
-            alloc, false, fresh, self.user, dollar, self.must, self.cover,
-        )?;
+        let posed = pose(alloc, false, fresh, self.user, names, self.must, self.cover)?;
         let Some(question) = posed else {
             return Ok(None);
         };

@@ -1,15 +1,17 @@
-//! Rows, as a question about one kind of names.
+//! Rows, as a question about names that begin alike.
 ghost use Rattle.std.specs.Prelude.{◌≡◌, ◌⊎◌, ◌&&◌, ◌||◌, not, Bool, true, IfOk, IfNone, IfSome};
 ghost use Rattle.std.specs.Option.{option_copied};
 ghost use Rattle.mq_witness.specs.Answers.{Asks};
 ghost use Rattle.mq_witness.specs.Fresh.{BeginSo};
+ghost use Rattle.mq_witness.specs.Names.{are_begun};
 ghost use Rattle.mq_witness.specs.Ready.{NamesNone, is_front};
 ghost use Rattle.mq_witness.specs.Roots.{NoneConcerned, all_begin};
 ghost use Rattle.mq_witness.specs.Rows.{lent_rows};
 
 use crate::fresh::{BothFresh, Fresh};
+use crate::names::Names;
 use crate::question::Question;
-use crate::roots::{all_begin, cover_roots, must_roots};
+use crate::roots::{all_begin, cover_roots, must_roots, with_states};
 use mq_acl::Row;
 use mq_cover::Remainder;
 use std::alloc::{AllocError, Global};
@@ -29,14 +31,13 @@ fn fresh_for<'a>(fresh: BothFresh<'a>, dollar: bool, must: &[Remainder]) -> Fres
     }
 }
 
-/// What is asked of the names that begin with `$`, or of the others, for this user name, or none; nothing where one of
-/// the first rows concerns none of them.
+/// What is asked of these names, for this user name, or none; nothing where one of the first rows concerns none of them.
 pub(crate) fn pose<'a>(
     alloc: Global,
     front: bool,
     fresh: BothFresh<'a>,
     user: Option<&str>,
-    dollar: bool,
+    names: Names,
     must: &[&'a Row],
     cover: &[&'a Row],
 ) -> Result<Option<Question<'a>>, AllocError>
@@ -44,19 +45,21 @@ pub(crate) fn pose<'a>(
     requires dollar { NamesNone fresh.dollar (lent_rows must.now) (lent_rows cover.now) }
     requires begin { BeginSo front fresh }
     ensures none { IfOk result (λ question. IfNone question
-        (NoneConcerned front (lent_rows must.now) (option_copied user.entry) dollar)) }
+        (NoneConcerned front (lent_rows must.now) (option_copied user.entry) (are_begun names))) }
     ensures some { IfOk result (λ question. IfSome question
-        (Asks front fresh.entry (option_copied user.entry) dollar
+        (Asks front fresh.entry (option_copied user.entry) names
         (lent_rows must.now) (lent_rows cover.now))) }
 {
-    let Some(must) = must_roots(alloc, front, must, user, dollar)? else {
+    let dollar = names.are_begun();
+    let Some(roots) = must_roots(alloc, front, must, user, dollar)? else {
         return Ok(None);
     };
+    let must = with_states(roots, names)?;
     let cover = cover_roots(alloc, front, cover, user, dollar, &must)?;
     let fresh = fresh_for(fresh, dollar, &must);
     Ok(Some(Question {
         fresh,
-        dollar,
+        names,
         must,
         cover,
     }))

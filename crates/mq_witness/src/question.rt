@@ -1,11 +1,12 @@
-//! A question about one kind of names: those that begin with `$`, or the others.
+//! A question about names that begin alike.
 ghost use Rattle.std.specs.Prelude.{◌≡◌, ℕ, List, Option, true, IfOk, IfNone, IfSome, Some};
 ghost use Rattle.std.specs.Prelude.{string_bytes};
 ghost use Rattle.std.specs.Option.{option_copied};
-ghost use Rattle.mq_cover.specs.Names.{is_choice, start_of};
+ghost use Rattle.mq_cover.specs.Names.{is_choice};
 ghost use Rattle.mq_cover.specs.Paths.{levels_of};
 ghost use Rattle.mq_cover.specs.Remainders.{FindsNothing, mark_passes, marks_pass, marks_view};
 ghost use Rattle.mq_witness.specs.Literals.{is_among};
+ghost use Rattle.mq_witness.specs.Names.{start_at};
 ghost use Rattle.mq_witness.specs.Ready.{CanAsk};
 ghost use Rattle.mq_witness.specs.Roots.{marks_of};
 ghost use Rattle.mq_witness.specs.Texts.{join_levels, level_of};
@@ -14,8 +15,9 @@ ghost use Rattle.mq_witness.specs.Tried.{is_tried_client, is_tried_user};
 use crate::fresh::Fresh;
 use crate::ids::level_of;
 use crate::literals::{Literals, has_mark};
+use crate::names::Names;
 use crate::witness::Witness;
-use mq_cover::{Marks, Path, Remainder, Start, find};
+use mq_cover::{Marks, Path, Remainder, find};
 use mq_topic::{TopicFault, TopicName};
 use std::alloc::{AllocError, Global};
 
@@ -27,15 +29,14 @@ pub(crate) struct Found<'a> {
     pub name: TopicName,
 }
 
-/// Which name of its kind does each of the first filters cover, and none of the others?
+/// Which of the names does each of the first filters cover, and none of the others?
 #[derive(Drop)]
 pub(crate) struct Question<'a> {
     pub fresh: Fresh<'a>,
-    /// Whether the names begin with `$`.
-    pub dollar: bool,
+    pub names: Names,
     pub must: Vec<Remainder<'a>>,
     pub cover: Vec<Remainder<'a>>,
-    ghost can_ask: { CanAsk fresh dollar must.items cover.items },
+    ghost can_ask: { CanAsk fresh names must.items cover.items },
 }
 
 impl Found<'_> {
@@ -102,12 +103,12 @@ impl<'a> Question<'a> {
     /// A name, where `%c` and `%u` stand for these levels, or for none; or that there is none.
     pub fn name(&self, alloc: Global, marks: Marks<'a>) -> Result<Option<TopicName>, AllocError>
         requires { marks_pass (is_choice self.now.fresh.others) (marks_view marks) ≡ true }
-        ensures none { IfOk result (λ found. IfNone found (FindsNothing (start_of self.now.dollar)
+        ensures none { IfOk result (λ found. IfNone found (FindsNothing (start_at self.now.names)
             200 (marks_view marks.entry) self.now.must.items self.now.cover.items)) }
         ensures some { IfOk result (λ found. IfSome found
             (IsHit self.now (marks_view marks.entry))) }
     {
-        let start = Start::of(self.dollar);
+        let start = self.names.start();
         let others = self.fresh.others;
         let Some(path) = find(alloc, marks, others, start, 200, &self.must, &self.cover)? else {
             return Ok(None);

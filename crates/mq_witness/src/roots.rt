@@ -1,20 +1,24 @@
 //! The rows that have to do with a question, with all of their filters left.
 ghost use Rattle.std.specs.Prelude.{◌≡◌, ℕ, Bool, List, true, false, IfOk, IfSome, IfNone, Option};
+ghost use Rattle.std.specs.List.{list_all};
 ghost use Rattle.std.specs.Option.{option_copied};
 ghost use Rattle.mq_topic.specs.Levels.{levels};
 ghost use Rattle.mq_topic.specs.Matching.{levels_match_by};
 ghost use Rattle.std.specs.Prelude.{not, ◌||◌, ◌&&◌};
 ghost use Rattle.mq_acl.specs.Access.{applies, concerns, begins_with_dollar, row_level_matches};
 ghost use Rattle.mq_acl.specs.Views.{owner_view, row_view};
-ghost use Rattle.mq_cover.specs.Remainders.{covers, fits, remainder_fits};
+ghost use Rattle.mq_cover.specs.Remainders.{MarkLevels, covers, fits, remainder_fits};
+ghost use Rattle.mq_cover.specs.Remainders.{remainders_fit};
 ghost use Rattle.mq_witness.specs.Decided.{begins_with_mark, concerns_in, is_mark, may_begin};
 ghost use Rattle.mq_witness.specs.Roots.{marks_of, left_begins, AreCover, AreMust, NoneConcerned};
 ghost use Rattle.mq_witness.specs.Roots.{all_begin};
+ghost use Rattle.mq_witness.specs.Names.{is_right, names_fit};
 ghost use Rattle.mq_witness.specs.Rows.{lent_rows};
 
+use crate::names::Names;
 use crate::overlap::{may_meet, may_meet_all};
 use crate::patterns::is_pattern;
-use mq_acl::{Row, applies};
+use mq_acl::{Row, applies, state_filter};
 use mq_cover::Remainder;
 use mq_topic::{LevelText, split_first};
 use std::alloc::{AllocError, Global};
@@ -140,6 +144,29 @@ pub(crate) fn must_roots<'a>(
         roots.push(root)?;
     }
     Ok(Some(roots))
+}
+
+/// These roots, with that of the filter that all of the names match, if there is one.
+pub(crate) fn with_states<'a>(
+    roots: Vec<Remainder<'a>>,
+    names: Names,
+) -> Result<Vec<Remainder<'a>>, AllocError>
+    ensures covers { IfOk result (λ all. (marks : MarkLevels) (name : List ℕ)
+        → list_all (covers marks (levels name)) all.items
+        ≡ (is_right names name && list_all (covers marks (levels name)) roots.entry.items)) }
+    ensures fit { IfOk result (λ all. (p : List ℕ → Bool) → remainders_fit p all.items
+        ≡ (names_fit p names && remainders_fit p roots.entry.items)) }
+    ensures begin { IfOk result (λ all. all_begin all.items ≡ all_begin roots.entry.items) }
+{
+    if !names.are_states() {
+        return Ok(roots);
+    }
+    let mut all = roots;
+    all.push(Remainder {
+        pattern: false,
+        rest: Some(state_filter()),
+    })?;
+    Ok(all)
 }
 
 /// The roots of rows of which none may concern a name, but for those that can't concern one that all of `must` cover.

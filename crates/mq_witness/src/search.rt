@@ -1,10 +1,10 @@
 ghost use Rattle.std.specs.Prelude.{◌≡◌, ℕ, List, Option, true, false, IfOk, IfNone, IfSome};
 ghost use Rattle.std.specs.Option.{option_copied};
 ghost use Rattle.mq_topic.specs.Texts.{is_name};
-ghost use Rattle.mq_acl.specs.Access.{begins_with_dollar};
 ghost use Rattle.mq_witness.specs.Clients.{can_be_id, is_of};
 ghost use Rattle.mq_witness.specs.Decided.{decides_in};
 ghost use Rattle.mq_witness.specs.Literals.{is_named};
+ghost use Rattle.mq_witness.specs.Names.{are_begun, is_one_of};
 ghost use Rattle.mq_witness.specs.Ready.{AreReady, is_nobody, stand_in};
 ghost use Rattle.mq_witness.specs.Roots.{NoneConcerned};
 ghost use Rattle.mq_witness.specs.Rows.{lent_rows};
@@ -13,6 +13,7 @@ use crate::clients::Clients;
 use crate::fresh::BothFresh;
 use crate::ids::can_be_id;
 use crate::literals::Literals;
+use crate::names::Names;
 use crate::pose::pose;
 use crate::question::{Found, Question};
 use mq_acl::Row;
@@ -46,19 +47,18 @@ impl<'a, 'b> Search<'a, 'b> {
         }
     }
 
-    // What is asked of the names that begin with `$`, or of the others; nothing where one of the first rows concerns
-    // none of them.
-    fn pose(&self, alloc: Global, dollar: bool) -> Result<Option<Question<'a>>, AllocError>
+    // What is asked of these names; nothing where one of the first rows concerns none of them.
+    fn pose(&self, alloc: Global, names: Names) -> Result<Option<Question<'a>>, AllocError>
         ensures none { IfOk result (λ question. IfNone question
             (NoneConcerned self.now.front (lent_rows self.now.must.now)
-            (stand_in self.now.fresh.plain self.now.clients) dollar)) }
+            (stand_in self.now.fresh.plain self.now.clients) (are_begun names))) }
         ensures some { IfOk result (λ question. IfSome question
-            (Asks self.now.front self.now.fresh (stand_in self.now.fresh.plain self.now.clients) dollar
+            (Asks self.now.front self.now.fresh (stand_in self.now.fresh.plain self.now.clients) names
             (lent_rows self.now.must.now) (lent_rows self.now.cover.now))) }
     {
         let user = self.user();
         pose(
-            alloc, self.front, self.fresh, user, dollar, self.must, self.cover,
+            alloc, self.front, self.fresh, user, names, self.must, self.cover,
         )
     }
 
@@ -72,16 +72,16 @@ impl<'a, 'b> Search<'a, 'b> {
         }
     }
 
-    /// A client that is asked about, and a name that begins with `$`, or doesn't, that each of the first rows concerns
-    /// and none of the others does; or that there is none.
-    pub fn answer(&self, alloc: Global, dollar: bool) -> Result<Option<Found<'a>>, AllocError>
+    /// A client that is asked about, and one of these names that each of the first rows concerns and none of the others
+    /// does; or that there is none.
+    pub fn answer(&self, alloc: Global, names: Names) -> Result<Option<Found<'a>>, AllocError>
         ensures none { IfOk result (λ found. IfNone found ((client name : List ℕ)
             (user : Option (List ℕ)) → can_be_id client ≡ true
             → is_of (λ u. is_named u self.now.users.now) self.now.clients user ≡ true
-            → is_name name ≡ true → begins_with_dollar name ≡ dollar
+            → is_name name ≡ true → is_one_of names name ≡ true
             → decides_in self.now.front client user name (lent_rows self.now.must.now)
             (lent_rows self.now.cover.now) ≡ false)) }
-        ensures some { IfOk result (λ found. IfSome found (IsFoundBy self.now.front dollar
+        ensures some { IfOk result (λ found. IfSome found (IsFoundBy self.now.front names
             self.now.fresh
             (λ u. is_named u self.now.users.now) self.now.clients
             (lent_rows self.now.must.now) (lent_rows self.now.cover.now))) }
@@ -89,7 +89,7 @@ impl<'a, 'b> Search<'a, 'b> {
         if self.is_nobody() {
             return Ok(None);
         }
-        let Some(question) = self.pose(alloc, dollar)? else {
+        let Some(question) = self.pose(alloc, names)? else {
             return Ok(None);
         };
         match self.clients {

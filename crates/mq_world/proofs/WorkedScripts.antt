@@ -3,6 +3,7 @@ use Rattle.std.specs.Prelude.{◌≡◌, ℕ, Bool, true, false, List, [], ◌�
 use Rattle.std.proofs.Common.{refl}
 use Rattle.std.specs.Option.{option_map_or}
 use Rattle.mq_acl.specs.AccessLists.{allowed}
+use Rattle.mq_acl.specs.Refused.{begins_own, begins_shared, is_refused, state_filter}
 use Rattle.mq_acl.specs.declared.rules.Rules.TheVariants.{Mosquitto}
 use Rattle.mq_world.specs.Lists.{Text, with_row}
 use Rattle.mq_world.specs.World.{World, Request, Connect, Disconnect, Subscribe, Unsubscribe, Publish, SetAcl, Advance, Stat, Group, Copy, Reply, fresh_world, empty_world, ruled, within}
@@ -739,6 +740,49 @@ unfolding fresh_world refusal answer after next with_row allowed groups_of serve
     filters_of steps
 refusals-steps = refl
 
+abbrev refused_by_broker-script : List Request
+refused_by_broker-script =
+    connect (codes "a") None
+    ∷ SetAcl (Some (116 ∷ 111 ∷ 112 ∷ 105 ∷ 99 ∷ 32 ∷ 114 ∷ 101 ∷ 97 ∷ 100 ∷ 119 ∷ 114 ∷ 105 ∷ 116 ∷ 101 ∷ 32 ∷ 36 ∷ 83 ∷ 89 ∷ 83 ∷ 47 ∷ 35 ∷ 10 ∷ 116 ∷ 111 ∷ 112 ∷ 105 ∷ 99 ∷ 32 ∷ 114 ∷ 101 ∷ 97 ∷ 100 ∷ 119 ∷ 114 ∷ 105 ∷ 116 ∷ 101 ∷ 32 ∷ 36 ∷ 83 ∷ 89 ∷ 83 ∷ 84 ∷ 69 ∷ 77 ∷ 10 ∷ 116 ∷ 111 ∷ 112 ∷ 105 ∷ 99 ∷ 32 ∷ 114 ∷ 101 ∷ 97 ∷ 100 ∷ 119 ∷ 114 ∷ 105 ∷ 116 ∷ 101 ∷ 32 ∷ 36 ∷ 115 ∷ 104 ∷ 97 ∷ 114 ∷ 101 ∷ 120 ∷ 10 ∷ 116 ∷ 111 ∷ 112 ∷ 105 ∷ 99 ∷ 32 ∷ 114 ∷ 101 ∷ 97 ∷ 100 ∷ 119 ∷ 114 ∷ 105 ∷ 116 ∷ 101 ∷ 32 ∷ 36 ∷ 115 ∷ 10 ∷ []))
+    ∷ subscribe (codes "a") (codes "$SYS/#") 0
+    ∷ subscribe (codes "a") (codes "$s") 0
+    ∷ message (codes "a") (codes "$SYS/x") (codes "1") 0
+    ∷ message (codes "a") (codes "$SYS/broker/connection/b/state") (codes "2") 0
+    ∷ message (codes "a") (codes "$SYS/broker/connection/b/c/state") (codes "3") 0
+    ∷ message (codes "a") (codes "$SYSTEM") (codes "4") 0
+    ∷ message (codes "a") (codes "$sharex") (codes "5") 0
+    ∷ message (codes "a") (codes "$s") (codes "6") 0
+    ∷ SetAcl None
+    ∷ publish (codes "a") (codes "$SYS/x") (codes "7") 0 true None
+    ∷ publish (codes "a") (codes "$sharex") (codes "8") 0 true None
+    ∷ SetAcl (Some (116 ∷ 111 ∷ 112 ∷ 105 ∷ 99 ∷ 32 ∷ 114 ∷ 101 ∷ 97 ∷ 100 ∷ 119 ∷ 114 ∷ 105 ∷ 116 ∷ 101 ∷ 32 ∷ 36 ∷ 83 ∷ 89 ∷ 83 ∷ 47 ∷ 35 ∷ 10 ∷ 116 ∷ 111 ∷ 112 ∷ 105 ∷ 99 ∷ 32 ∷ 114 ∷ 101 ∷ 97 ∷ 100 ∷ 119 ∷ 114 ∷ 105 ∷ 116 ∷ 101 ∷ 32 ∷ 36 ∷ 115 ∷ 104 ∷ 97 ∷ 114 ∷ 101 ∷ 120 ∷ 10 ∷ []))
+    ∷ subscribe (codes "a") (codes "$SYS/x") 0
+    ∷ subscribe (codes "a") (codes "$sharex") 0
+    ∷ []
+
+refused_by_broker : answers (ruled Mosquitto empty_world) refused_by_broker-script
+    ≡ (ok [] 0
+    ∷ ok [] 0
+    ∷ ok [] 0
+    ∷ ok [] 0
+    ∷ Err NotAuthorized
+    ∷ ok (record { client = (codes "a"); topic = (codes "$SYS/broker/connection/b/state"); payload = (codes "2"); qos = 0; retain = false; expiry = None; identifiers = []; group = None } ∷ []) 0
+    ∷ Err NotAuthorized
+    ∷ Err NotAuthorized
+    ∷ Err NotAuthorized
+    ∷ ok (record { client = (codes "a"); topic = (codes "$s"); payload = (codes "6"); qos = 0; retain = false; expiry = None; identifiers = []; group = None } ∷ []) 0
+    ∷ ok [] 0
+    ∷ ok (record { client = (codes "a"); topic = (codes "$SYS/x"); payload = (codes "7"); qos = 0; retain = false; expiry = None; identifiers = []; group = None } ∷ []) 0
+    ∷ ok [] 16
+    ∷ ok [] 0
+    ∷ ok (record { client = (codes "a"); topic = (codes "$SYS/x"); payload = (codes "7"); qos = 0; retain = true; expiry = None; identifiers = []; group = None } ∷ []) 0
+    ∷ ok [] 0
+    ∷ [])
+unfolding fresh_world refusal answer after next with_row allowed unshared_copies groups_of served_rows
+    retained_after retained_copies resumed_copies begins_to_wait filters_of counts
+    begins_own begins_shared is_refused state_filter
+refused_by_broker = refl
+
 abbrev retain_handling_unshared-script : List Request
 retain_handling_unshared-script =
     connect (codes "a") None
@@ -919,6 +963,7 @@ rules_of_mosquitto : answers (ruled Mosquitto empty_world) rules_of_mosquitto-sc
     ∷ [])
 unfolding fresh_world refusal answer after next with_row allowed unshared_copies groups_of served_rows
     retained_after retained_copies resumed_copies begins_to_wait filters_of counts
+    begins_own begins_shared is_refused state_filter
 rules_of_mosquitto = refl
 
 abbrev session_begun_anew-script : List Request

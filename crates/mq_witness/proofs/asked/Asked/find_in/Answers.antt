@@ -1,5 +1,7 @@
 use Rattle.std.proofs.Common.{ap, sym, ◌∙◌}
 use Rattle.mq_acl.specs.Access.{begins_with_dollar}
+use Rattle.mq_cover.specs.Names.{fits_start}
+use Rattle.mq_cover.specs.declared.start.Start.TheVariants.{Writable}
 use Rattle.mq_witness.specs.Asked.{AskedRows}
 use Rattle.mq_witness.specs.declared.fresh.BothFresh.{BothFresh}
 use Rattle.mq_witness.proofs.ReadyLemmas.{can_answer, search_ready}
@@ -20,7 +22,7 @@ invariant_of-search c =
             c.requires.must c.requires.cover;
         begin = (
           ap begins_with_dollar c.fresh.ensures.client ∙ can.begin,
-          λ e. ap begins_with_dollar c.fresh-2.ensures.client ∙ can.dollar_begin,
+          λ e. ap (fits_start Writable) c.fresh-2.ensures.client ∙ can.dollar_begin,
         );
       };
     }

@@ -3,7 +3,7 @@ use Rattle.std.specs.List.{list_all}
 use Rattle.mq_witness.specs.Limits.{usable}
 use Rattle.mq_witness.specs.Rows.{all_rows, is_user_of, rows_name}
 use Rattle.mq_witness.specs.Ruled.{are_whole, has_patterns}
-use Rattle.mq_witness.proofs.FreshLemmas.{client_begins}
+use Rattle.mq_witness.proofs.FreshLemmas.{client_begins, client_front}
 use Rattle.mq_witness.proofs.ReadyLemmas.{AreNames, can_be_asked}
 use Rattle.mq_witness.proofs.TryLemmas.{none_at}
 use Rattle.mq_witness.proofs.asked.Asked.of.Goals as goal
@@ -24,7 +24,7 @@ invariant_of-result c =
         asked_can = can_be_asked false names c.in_ok-texts.ensures;
         dollar_can = can_be_asked true names c.in_ok-dollar.ensures;
         begin = client_begins false _ c.in_ok-texts.ensures.client.made;
-        dollar_begin = client_begins true _ c.in_ok-dollar.ensures.client.made;
+        dollar_begin = client_front true _ c.in_ok-dollar.ensures.client.made;
         all_usable = all_usable;
         longer = c.in_ok-longest.ensures;
       },

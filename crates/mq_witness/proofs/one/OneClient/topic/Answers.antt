@@ -7,7 +7,7 @@ use Rattle.mq_witness.proofs.one.OneClient.topic.Goals as goal
 pub returns-in_default-clause-none : goal.returns-in_default-clause-none
 returns-in_default-clause-none c =
     let s = c.args.self.now in
-    no_topic s.client.now (option_copied s.user) c.args.dollar (lent_rows s.must.now)
+    no_topic s.client.now (option_copied s.user) c.args.names (lent_rows s.must.now)
     (lent_rows s.cover.now)
     (none_at c.in_ok-posed.posed _ c.in_default.is c.in_ok-posed.ensures.none)
 

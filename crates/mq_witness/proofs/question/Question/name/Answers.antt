@@ -14,7 +14,7 @@ find-requires-clause-cover c = choices_fit c.args.self.now.fresh c.deref-2.ensur
 pub returns-in-Ok-clause-some : goal.returns-in-Ok-clause-some
 returns-in-Ok-clause-some c =
     found_hits c.args.self.now (record {
-      start_is = c.of-start.ensures;
+      start_is = c.start-start.ensures;
       must_is = c.deref.ensures.value;
       cover_is = c.deref-2.ensures.value;
     })
@@ -26,7 +26,7 @@ pub unreachable-requires : goal.unreachable-requires
 unreachable-requires c =
     let valid = ap is_name (c.as_str.ensures.value ∙ c.in_ok-text.ensures)
     ∙ found_is_name c.args.self.now (record {
-      start_is = c.of-start.ensures;
+      start_is = c.start-start.ensures;
       must_is = c.deref.ensures.value;
       cover_is = c.deref-2.ensures.value;
     }) (c.in_ok-path.ensures.some c.in-Some.path c.in-Some.is) in

@@ -11,7 +11,7 @@ use Rattle.mq_witness.proofs.search.Search.answer.Goals as goal
 pub returns-in_default-clause-none : goal.returns-in_default-clause-none
 returns-in_default-clause-none c =
     let s = c.args.self.now in
-    none_concerned s.front s.fresh s.users.now s.clients c.args.dollar (lent_rows s.must.now)
+    none_concerned s.front s.fresh s.users.now s.clients c.args.names (lent_rows s.must.now)
     (lent_rows s.cover.now) s.ready
     (none_at _ _ c.in_default.is c.in_ok-question.ensures.none)
 
