@@ -3,12 +3,14 @@ use Rattle.std.proofs.Common.{◌≡◌, ◌+◌, ◌<◌, ◌≤◌, ◌==◌, 
 use Rattle.std.proofs.Common.{[], ◌∷◌, ◌++◌, Option, Some, None, All, length, get_or, ltb, refl, ap}
 use Rattle.std.proofs.Common.{sym, ◌∙◌, subst, arith, Bor, bytes_eq, zero, suc, Contains}
 use Rattle.std.specs.List.{filter, list_any}
-use Rattle.std.proofs.lemmas.Bool.{ltb-true, ltb-false}
+use Rattle.std.proofs.lemmas.Bool.{and_parts, ltb-true, ltb-false}
 use Rattle.std.proofs.lemmas.List.Elements.{All-append, All-filter, All-nil, All-weaker}
 use Rattle.std.proofs.lemmas.List.Folds.{list_any_at}
 use Rattle.mq_topic.proofs.ByteLemmas.{text_is, text_itself}
 use Rattle.mq_topic.specs.Texts.{is_name}
 use Rattle.mq_acl.specs.AccessLists.{allow_by}
+use Rattle.mq_acl.specs.Refused.{refuses}
+use Rattle.mq_acl.specs.Rows.{AclRow}
 use Rattle.mq_acl.specs.declared.rules.Rules.{Rules}
 use Rattle.mq_acl.specs.Views.{line_views, owner_view, row_view, row_views}
 use Rattle.mq_acl.specs.declared.access.Direction.{Direction}
@@ -21,6 +23,7 @@ use Rattle.mq_witness.specs.Literals.{is_among}
 use Rattle.mq_witness.specs.Rows.{is_user_of}
 use Rattle.mq_witness.specs.declared.clients.Clients.{Clients}
 use Rattle.mq_witness.specs.declared.clients.Clients.TheVariants as clients
+use Rattle.mq_witness.specs.declared.topics.Topics.TheVariants.{Open}
 use Rattle.mq_differences.specs.ByOwner.{IsGrouped, is_for}
 use Rattle.mq_differences.specs.Changes.{ShowsChangesIn, ShowsChangesOf}
 use Rattle.mq_differences.specs.Faults.{IsComparisonFault}
@@ -30,7 +33,8 @@ use Rattle.mq_differences.specs.declared.fault.ComparisonFault.TheVariants as co
 use Rattle.mq_differences.specs.declared.fault.Side.TheVariants.{Old, New}
 use Rattle.mq_differences.specs.Classes.{can_be_user}
 use Rattle.mq_differences.specs.Differences.{AreMarked, AreUnnamed, IsKnown, IsMarked, IsReal}
-use Rattle.mq_differences.specs.Differences.{ShowsOthers, ShowsAll, is_compared, is_shown_of}
+use Rattle.mq_differences.specs.Differences.{ShowsOthers, ShowsAll, is_change, is_compared}
+use Rattle.mq_differences.specs.Differences.{is_shown_of}
 use Rattle.mq_differences.specs.Marks.{ArePlaced, IsKept, rows_of}
 use Rattle.mq_differences.specs.Questions.{AreJudges, AreRowsFor, HasDenies, IsList, IsPoint}
 use Rattle.mq_differences.specs.Questions.{IsStop, judging}
@@ -44,6 +48,7 @@ use Rattle.mq_differences.specs.declared.lists.Lists.{Lists}
 use Rattle.mq_differences.specs.declared.marks.Marked.{Marked}
 use Rattle.mq_differences.specs.declared.way.Way.{Way}
 use Rattle.mq_differences.specs.declared.way.Way.TheVariants.{Gained, Lost}
+use Rattle.mq_differences.proofs.DeciderLemmas.{allowed_open}
 use Rattle.mq_differences.proofs.FirstLemmas.{first_place}
 use Rattle.mq_differences.proofs.ReportLemmas.{grows_both}
 
@@ -140,20 +145,36 @@ pub shows_directions : (lists : Lists) (c : Clients) (shown : List Difference)
 shows_directions lists c shown r w way Reading = r way
 shows_directions lists c shown r w way Writing = w way
 
+-- what changes the broker doesn't refuse by itself
+pub changed_open : (rules : Rules) (way : Way) (old new : List AclRow) (client : List ℕ)
+    (user : Option (List ℕ)) (topic : List ℕ) (direction : Direction)
+    → is_change rules way old new client user topic direction ≡ true
+    → refuses rules direction topic ≡ false
+changed_open rules Gained old new client user topic direction e =
+    allowed_open rules new client user topic direction
+    (and_parts (allow_by rules new client user topic direction) _ e).0
+changed_open rules Lost old new client user topic direction e =
+    allowed_open rules old client user topic direction
+    (and_parts (allow_by rules old client user topic direction) _ e).0
+
 -- ---- whom they are compared for
 -- a client that they are compared for is one that questions are about
-point : (lists : Lists) {c : Clients} (client : List ℕ) (user : Option (List ℕ)) (topic : List ℕ)
-    → lists.asked.rows ≡ row_views lists.old.now ++ row_views lists.new.now
+point : (lists : Lists) {c : Clients} (way : Way) (direction : Direction) (client : List ℕ)
+    (user : Option (List ℕ)) (topic : List ℕ) → lists.asked.rows ≡ row_views lists.old.now ++ row_views lists.new.now
     → can_be_id client ≡ true → is_client_of lists.asked c user ≡ true
     → is_compared lists.asked.rules lists.old.now lists.new.now client user ≡ true
-    → is_name topic ≡ true → IsPoint lists.asked c client user topic
-point lists client user topic is c u a v = record {
+    → is_name topic ≡ true
+    → is_change lists.asked.rules way (row_views lists.old.now) (row_views lists.new.now) client
+    user topic direction ≡ true → IsPoint (Open direction) lists.asked c client user topic
+point lists way direction client user topic is c u a v e = record {
   is_asked = record {
     client_fits = c;
     user_fits = u;
     are_asked = ap (λ rs. are_asked_of lists.asked.rules rs client user) is ∙ a;
   };
   valid = v;
+  taken = changed_open lists.asked.rules way (row_views lists.old.now) (row_views lists.new.now)
+      client user topic direction e;
 }
 
 -- ---- the clients of each user name
@@ -178,7 +199,8 @@ pub shows_user : (lists : Lists) (name : Bor (List ℕ)) (shown : List Differenc
     → ShowsChangesOf lists (Some name.now) shown
 shows_user lists name shown is t way direction client topic c u a v e =
     t way direction client topic (Some name.now)
-    (point lists client (Some name.now) topic is c (rw (text_itself name.now, u) refl) a v) e
+    (point lists way direction client (Some name.now) topic is c (rw (text_itself name.now, u) refl)
+    a v e) e
 
 pub users_one : (lists : Lists) (names : List (Bor (List ℕ))) (n : ℕ) (name : Bor (List ℕ))
     (first shown more : List Difference) → n < length names → name ≡ get_or names n name
@@ -245,7 +267,7 @@ shows_all_clients lists anonymous users shown is g h n u o way direction client 
     topic
     in
     h.kept p (g.kept p (n way direction client topic None
-    (point lists client None topic is c refl a v) e))
+    (point lists way direction client None topic is c refl a v e) e))
 shows_all_clients lists anonymous users shown is g h n u o way direction client topic
     (Some name) c f
     a v e =
@@ -259,7 +281,7 @@ shows_all_clients lists anonymous users shown is g h n u o way direction client 
         (Some name) topic) (u name k way direction client topic c f a v e)
     at false k =
         o way direction client topic (Some name)
-        (point lists client (Some name) topic is c (rw (f, k) refl) a v) e
+        (point lists way direction client (Some name) topic is c (rw (f, k) refl) a v e) e
 
 -- ---- the answer
 pub report_none : (old new : List Row) (asked : AskedRows) (shown : List Difference) → shown ≡ []

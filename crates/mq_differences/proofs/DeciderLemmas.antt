@@ -4,12 +4,13 @@ use Rattle.std.proofs.Common.{◌∷◌, ◌++◌, bytes_eq, Bor, Option, Some, 
 use Rattle.std.specs.Prelude.{find, is_some}
 use Rattle.std.specs.List.{filter, list_any}
 use Rattle.std.specs.Option.{option_copied, option_or, unwrap_or}
-use Rattle.std.proofs.lemmas.Bool.{and_parts}
+use Rattle.std.proofs.lemmas.Bool.{and_parts, not-true}
 use Rattle.std.proofs.Math.Bool.{and-true, and-false}
 use Rattle.mq_acl.specs.Access.{applies, concerns, grants, is_deny}
-use Rattle.mq_acl.specs.AccessLists.{allow_by, concerns_by, user_by}
+use Rattle.mq_acl.specs.AccessLists.{allow_by, concerns_by, grant_by, user_by}
 use Rattle.mq_acl.specs.Lines.{Access, Read, Write, ReadWrite, Deny}
 use Rattle.mq_acl.specs.Mosquitto.{decided, decision, known_user, row_covers}
+use Rattle.mq_acl.specs.Refused.{refuses}
 use Rattle.mq_acl.specs.Rows.{AclRow, Who}
 use Rattle.mq_acl.specs.Rows as rows
 use Rattle.mq_acl.specs.RowsByOwner.{is_everyones, is_own}
@@ -238,7 +239,7 @@ module _ (client : List ℕ) (user : Option (List ℕ)) (name : List ℕ) (direc
       then false else (if some_at Own direction (concerns client user name) 1 all then true
       else (if some_at Own direction (concerns client user name) 2 all then false
       else some_at Own direction (concerns client user name) 3 all)))
-      ≡ allow_by Own all client user name direction
+      ≡ grant_by Own all client user name direction
   own_allows all =
       (λ i. if any_same _ _ (λ row. flip (concerns client user name row)
       (ranks false direction row.access).0) all i then false
@@ -360,26 +361,74 @@ module _ (client : List ℕ) (user : Option (List ℕ)) (name : List ℕ) (direc
       at false false false true = refl
       at false false false false = refl
 
+-- what rows grant, by the ranks of those that concern it
+pub granted_at : (rules : Rules) (all : List AclRow) (client : List ℕ) (user : Option (List ℕ))
+    (name : List ℕ) (direction : Direction)
+    → grant_by rules all client user name direction
+    ≡ (let c : AclRow → Bool = concerns_by rules client (user_by rules user) name in
+    if some_at rules direction c 0 all then false
+    else (if some_at rules direction c 1 all then true
+    else (if some_at rules direction c 2 all then false else some_at rules direction c 3 all)))
+granted_at Own all client user name direction = sym (own_allows client user name direction all)
+granted_at Mosquitto all client user name direction =
+    sym (mosquitto_is client (known_user user) name direction all)
+
+-- what the broker doesn't refuse by itself the rows decide
+pub open_allows : (rules : Rules) (all : List AclRow) (client : List ℕ) (user : Option (List ℕ))
+    (name : List ℕ) (direction : Direction) → refuses rules direction name ≡ false
+    → allow_by rules all client user name direction ≡ grant_by rules all client user name direction
+open_allows rules all client user name direction h =
+    ap (λ b. not b && grant_by rules all client user name direction) h
+
+-- what is allowed it doesn't refuse
+pub allowed_open : (rules : Rules) (all : List AclRow) (client : List ℕ) (user : Option (List ℕ))
+    (name : List ℕ) (direction : Direction)
+    → allow_by rules all client user name direction ≡ true → refuses rules direction name ≡ false
+allowed_open rules all client user name direction h =
+    not-true (refuses rules direction name) (and_parts _ _ h).0
+
 -- what a list allows, by the ranks of the rows that concern it
 pub allowed_at : (rules : Rules) (all : List AclRow) (client : List ℕ) (user : Option (List ℕ))
-    (name : List ℕ) (direction : Direction)
+    (name : List ℕ) (direction : Direction) → refuses rules direction name ≡ false
     → allow_by rules all client user name direction
     ≡ (let c : AclRow → Bool = concerns_by rules client (user_by rules user) name in
     if some_at rules direction c 0 all then false
     else (if some_at rules direction c 1 all then true
     else (if some_at rules direction c 2 all then false else some_at rules direction c 3 all)))
-allowed_at Own all client user name direction = sym (own_allows client user name direction all)
-allowed_at Mosquitto all client user name direction =
-    sym (mosquitto_is client (known_user user) name direction all)
+allowed_at rules all client user name direction h =
+    open_allows rules all client user name direction h
+    ∙ granted_at rules all client user name direction
 
--- the rows decide as the list allows
+-- the rows decide as they grant
+pub granted_is : (rules : Rules) (all : List Row) (client : List ℕ) (user : Option (List ℕ))
+    (name : List ℕ) (direction : Direction)
+    → grant_by rules (row_views all) client user name direction
+    ≡ is_grant (reason_by (decider rules all client user name direction))
+granted_is rules all client user name direction =
+    granted_at rules (row_views all) client user name direction
+    ∙ sym (decides_is rules direction (concerns_by rules client (user_by rules user) name) all)
+
+-- and the reason is as the list allows
 pub allowed_is : (rules : Rules) (all : List Row) (client : List ℕ) (user : Option (List ℕ))
     (name : List ℕ) (direction : Direction)
     → allow_by rules (row_views all) client user name direction
     ≡ is_grant (reason_of rules all client user name direction)
 allowed_is rules all client user name direction =
-    allowed_at rules (row_views all) client user name direction
-    ∙ sym (decides_is rules direction (concerns_by rules client (user_by rules user) name) all)
+    at (refuses rules direction name) (granted_is rules all client user name direction)
+  where
+    at : (b : Bool) {g : Bool} → g ≡ is_grant (reason_by (decider rules all client user name direction))
+        → (not b && g) ≡ is_grant (if b then reasons.Broker
+        else reason_by (decider rules all client user name direction))
+    at true e = refl
+    at false e = e
+
+-- it is the row's, where the broker doesn't refuse it by itself
+pub open_reason : (rules : Rules) (all : List Row) (client : List ℕ) (user : Option (List ℕ))
+    (name : List ℕ) (direction : Direction) → refuses rules direction name ≡ false
+    → reason_of rules all client user name direction
+    ≡ reason_by (decider rules all client user name direction)
+open_reason rules all client user name direction h =
+    ap (λ b. if b then reasons.Broker else reason_by (decider rules all client user name direction)) h
 
 -- ---- rank by rank
 find_same : (p q : Row → Bool) → ((x : Row) → p x ≡ q x) → (xs : List Row)

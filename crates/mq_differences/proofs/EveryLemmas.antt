@@ -22,7 +22,7 @@ use Rattle.mq_differences.specs.Marks.{rows_of, views_of}
 use Rattle.mq_differences.specs.Questions.{AreJudges, AreShown, AreShownBy, AreShownOf, IsPlaced}
 use Rattle.mq_differences.specs.Questions.{IsQuestion, NeverMeet, ShowsChanges, asked_in}
 use Rattle.mq_differences.specs.Questions.{denied_cover, denied_must, granted_cover, is_shown}
-use Rattle.mq_differences.specs.Questions.{must_of}
+use Rattle.mq_differences.specs.Questions.{must_of, open_in}
 use Rattle.mq_differences.specs.Questions.{rows_with, rows_without, rules_in}
 use Rattle.mq_differences.specs.Ranks.{is_judge, judges, rank, rank_of, ranked}
 use Rattle.mq_differences.specs.Reasons.{decider, is_grant, reason_by}
@@ -32,8 +32,8 @@ use Rattle.mq_differences.specs.declared.judges.Judges.{Judges}
 use Rattle.mq_differences.specs.declared.marks.Marked.{Marked}
 use Rattle.mq_differences.specs.declared.way.Way.{Way}
 use Rattle.mq_differences.specs.declared.way.Way.TheVariants.{Gained, Lost}
-use Rattle.mq_differences.proofs.DeciderLemmas.{allowed_is, any_found, find_append, find_filter}
-use Rattle.mq_differences.proofs.DeciderLemmas.{found_passes}
+use Rattle.mq_differences.proofs.DeciderLemmas.{any_found, find_append, find_filter, found_passes}
+use Rattle.mq_differences.proofs.DeciderLemmas.{granted_is, open_allows}
 use Rattle.mq_differences.proofs.FirstLemmas.{IsFirst, find_behind, find_none, first_place}
 use Rattle.mq_differences.proofs.FirstLemmas.{parts_at}
 use Rattle.mq_differences.proofs.GainLemmas.{decided_parts, from_rows, none_in, none_of}
@@ -153,7 +153,9 @@ shows_all q shown k each client topic user p change =
     let from_is = decider_is rules (from_rows q) (to_rows q) q.clients q.direction q.from.now client
     user topic for.user_is k.from for.from in
     let grants = granting (decider rules (to_rows q) client user topic q.direction)
-    (sym (allowed_is rules (to_rows q) client user topic q.direction) ∙ parts.0) in
+    (sym (granted_is rules (to_rows q) client user topic q.direction)
+    ∙ sym (open_allows rules (row_views (to_rows q)) client user topic q.direction p.taken)
+    ∙ parts.0) in
     let some = any_views c (rows_of to)
     ∙ is_found (λ (r : Row). c (row_view r)) (rows_of to) grants.0 (sym to_is ∙ grants.1) in
     let first = first_mark c to some in
@@ -161,7 +163,8 @@ shows_all q shown k each client topic user p change =
     let same : grants.0 ≡ grant.row.now = some_same (sym grants.1 ∙ to_is ∙ found_mark c to first) in
     let shown_by = each first.place first.item first.in_range
     (ap (λ (r : Row). is_deny (row_view r).access) (sym same) ∙ grants.2) in
-    let refuses = sym (allowed_is rules (from_rows q) client user topic q.direction)
+    let refuses = sym (granted_is rules (from_rows q) client user topic q.direction)
+    ∙ sym (open_allows rules (row_views (from_rows q)) client user topic q.direction p.taken)
     ∙ not_false (allow_by rules (row_views (from_rows q)) client user topic q.direction) parts.1 in
     at (list_any c (views_of from)) refl
     (λ any. let denier = first_mark c from any in
@@ -465,19 +468,19 @@ shown_of_both q must cover shown plain dollar client topic user p e = at (begins
 
 -- rows that meet in neither kind never do
 pub meet_in_neither : (q : Question) (must : List AclRow)
-    → FindsNoneBy false (asked_in q) q.clients must []
-    → FindsNoneBy true (asked_in q) q.clients must [] → NeverMeet q must
+    → FindsNoneBy false (open_in q) (asked_in q) q.clients must []
+    → FindsNoneBy true (open_in q) (asked_in q) q.clients must [] → NeverMeet q must
 meet_in_neither q must plain dollar client topic user p = at (begins_with_dollar topic) refl
   where
     at : (b : Bool) → begins_with_dollar topic ≡ b
         → decides_by (rules_in q) client user topic must [] ≡ false
-    at true k = dollar client topic user p.is_asked p.valid k
-    at false k = plain client topic user p.is_asked p.valid k
+    at true k = dollar client topic user p.is_asked p.valid k p.taken
+    at false k = plain client topic user p.is_asked p.valid k p.taken
 
 -- what no topic of a kind is found for is shown
 pub none_of_kind : (q : Question) (dollar : Bool) (must cover : List AclRow)
-    (shown : List Difference) → FindsNoneBy dollar (asked_in q) q.clients must cover
+    (shown : List Difference) → FindsNoneBy dollar (open_in q) (asked_in q) q.clients must cover
     → AreShownOf dollar q must cover shown
 none_of_kind q dollar must cover shown none client topic user p kind e =
     apart (decides_by (rules_in q) client user topic must cover) e
-    (none client topic user p.is_asked p.valid kind)
+    (none client topic user p.is_asked p.valid kind p.taken)

@@ -6,6 +6,7 @@ use Rattle.std.specs.Option.{option_map}
 use Rattle.std.proofs.lemmas.Bool.{and_parts}
 use Rattle.std.proofs.lemmas.List.Folds.{list_any-append}
 use Rattle.mq_acl.specs.AccessLists.{concerns_by, user_by}
+use Rattle.mq_acl.specs.Refused.{refuses}
 use Rattle.mq_acl.specs.Rows.{AclRow}
 use Rattle.mq_acl.specs.Views.{row_view, row_views}
 use Rattle.mq_acl.specs.declared.access.Direction.{Direction}
@@ -16,7 +17,7 @@ use Rattle.mq_witness.specs.declared.clients.Clients.{Clients}
 use Rattle.mq_differences.specs.Differences.{is_change, is_gained}
 use Rattle.mq_differences.specs.Marks.{views_of}
 use Rattle.mq_differences.specs.Questions.{AreJudges, IsBefore, IsGain, IsPoint, IsQuestion}
-use Rattle.mq_differences.specs.Questions.{asked_in}
+use Rattle.mq_differences.specs.Questions.{asked_in, open_in}
 use Rattle.mq_differences.specs.Questions.{gain_cover, gain_must, gain_reasons, must_of, refused}
 use Rattle.mq_differences.specs.Questions.{rows_with, rows_without, rules_in}
 use Rattle.mq_differences.specs.Reasons.{is_grant, reason_of}
@@ -74,14 +75,16 @@ refusal : (rules : Rules) (rows others : List Row) (c : Clients) (direction : Di
     → list_all (concerns_by rules client user name)
     (must_of (option_map (λ r. row_view r.now) deny) grant) ≡ true
     → list_any (concerns_by rules client user name) (views_of judging) ≡ false
+    → refuses rules direction name ≡ false
     → reason_of rules rows client user name direction ≡ refused (option_map (λ r. r.now) deny)
-refusal rules rows others c direction all client user name judging None grant u j h b must n =
+refusal rules rows others c direction all client user name judging None grant u j h b must n taken =
     reason_none rules rows others c direction all client user name u j h
-    (ap (λ ms. list_any (concerns_by rules client user name) (views_of ms)) (sym b) ∙ n)
-refusal rules rows others c direction all client user name judging (Some deny) grant u j h b must n =
+    (ap (λ ms. list_any (concerns_by rules client user name) (views_of ms)) (sym b) ∙ n) taken
+refusal rules rows others c direction all client user name judging (Some deny) grant u j h b must n
+    taken =
     reason_denied rules rows others c direction all client user name u j h judging deny.now b.0 b.1 n
     (and_parts (concerns_by rules client user name (row_view deny.now))
-    (concerns_by rules client user name grant && true) must).0
+    (concerns_by rules client user name grant && true) must).0 taken
 
 refused_not : (deny : Option Row) → is_grant (refused deny) ≡ false
 refused_not None = refl
@@ -108,7 +111,7 @@ pub record IsFor (q : Question) (client : List ℕ) (user : Option (List ℕ)) (
     pub user_is : user_by (rules_in q) user ≡ user
 
 pub question_for : (q : Question) (client : List ℕ) (user : Option (List ℕ)) (name : List ℕ)
-    → IsQuestion q → IsPoint (asked_in q) q.clients client user name → IsFor q client user name
+    → IsQuestion q → IsPoint (open_in q) (asked_in q) q.clients client user name → IsFor q client user name
 question_for q client user name k p =
     let both = concerned_for (rules_in q) (asked_in q) q.lists.now.old.now q.lists.now.new.now
     q.clients client name user k.asked p.is_asked.user_fits in
@@ -131,7 +134,7 @@ pub record IsGainedBy (q : Question) (gain : Gain) (client : List ℕ) (user : O
 
 pub gain_decides : (q : Question) (gain : Gain) (client : List ℕ) (user : Option (List ℕ))
     (name : List ℕ) → IsQuestion q → IsGain q gain
-    → IsPoint (asked_in q) q.clients client user name
+    → IsPoint (open_in q) (asked_in q) q.clients client user name
     → decides_by (rules_in q) client user name (gain_must gain) (gain_cover gain) ≡ true
     → IsGainedBy q gain client user name
 gain_decides q gain client user name k g p e =
@@ -144,10 +147,10 @@ gain_decides q gain client user name k g p e =
     record {
       from = refusal (rules_in q) (from_rows q) (to_rows q) q.clients q.direction q.from.now client
           user name gain.judging.now gain.deny (row_view gain.grant.now) for.user_is k.from for.from
-          g.from parts.0 none.0;
+          g.from parts.0 none.0 p.taken;
       to = reason_granted (rules_in q) (to_rows q) (from_rows q) q.clients q.direction q.to.now client
           user name for.user_is k.to for.to gain.before.now gain.grant.now g.grant g.grants none.1
-          here;
+          here p.taken;
     }
 
 -- ---- the old list and the new one

@@ -6,6 +6,7 @@ use Rattle.std.specs.List.{filter, list_any}
 use Rattle.std.specs.Option.{option_or}
 use Rattle.mq_acl.specs.Access.{is_deny}
 use Rattle.mq_acl.specs.AccessLists.{concerns_by, user_by}
+use Rattle.mq_acl.specs.Refused.{refuses}
 use Rattle.mq_acl.specs.Rows.{AclRow}
 use Rattle.mq_acl.specs.Views.{owner_view, row_view, row_views}
 use Rattle.mq_acl.specs.declared.access.Direction.{Direction}
@@ -21,7 +22,7 @@ use Rattle.mq_differences.specs.declared.judges.Judges.{Judges}
 use Rattle.mq_differences.specs.declared.marks.Marked.{Marked}
 use Rattle.mq_differences.specs.declared.reason.Reason.TheVariants.{Deny, Grant, NoGrant}
 use Rattle.mq_differences.proofs.DeciderLemmas.{find_append}
-use Rattle.mq_differences.proofs.DeciderLemmas.{find_filter as find_in_filter}
+use Rattle.mq_differences.proofs.DeciderLemmas.{find_filter as find_in_filter, open_reason}
 use Rattle.mq_differences.proofs.FirstLemmas.{find_behind, find_filter, find_none}
 
 pub any_views : (p : AclRow → Bool) (rows : List Row)
@@ -124,21 +125,28 @@ module _ (rules : Rules) (rows others : List Row) (c : Clients) (direction : Dir
       → is_deny (row_view row).access ≡ true
       → list_any (concerns_by rules client user name) (views_of before) ≡ false
       → concerns_by rules client user name (row_view row) ≡ true
+      → refuses rules direction name ≡ false
       → reason_of rules rows client user name direction ≡ Deny row.line
-  reason_denied before row s d n y = ap reason_by (decider_at before row s n y)
+  reason_denied before row s d n y h =
+      open_reason rules rows client user name direction h
+      ∙ ap reason_by (decider_at before row s n y)
       ∙ ap (λ b. cond b (Deny row.line) (Grant row.line)) d
 
   pub reason_granted : (before : List Marked) (row : Row) → IsSplit all.rows.items before row
       → is_deny (row_view row).access ≡ false
       → list_any (concerns_by rules client user name) (views_of before) ≡ false
       → concerns_by rules client user name (row_view row) ≡ true
+      → refuses rules direction name ≡ false
       → reason_of rules rows client user name direction ≡ Grant row.line
-  reason_granted before row s d n y = ap reason_by (decider_at before row s n y)
+  reason_granted before row s d n y h =
+      open_reason rules rows client user name direction h
+      ∙ ap reason_by (decider_at before row s n y)
       ∙ ap (λ b. cond b (Deny row.line) (Grant row.line)) d
 
   pub reason_none : list_any (concerns_by rules client user name) (views_of all.rows.items) ≡ false
+      → refuses rules direction name ≡ false
       → reason_of rules rows client user name direction ≡ NoGrant
-  reason_none n = ap reason_by (decider_is
+  reason_none n h = open_reason rules rows client user name direction h ∙ ap reason_by (decider_is
       ∙ find_none (λ (r : Row). concerns_by rules client user name (row_view r))
       (rows_of all.rows.items)
       (sym (any_views (concerns_by rules client user name) (rows_of all.rows.items)) ∙ n))

@@ -32,7 +32,7 @@ use Rattle.mq_differences.specs.declared.difference.Difference.{Difference}
 use Rattle.mq_differences.specs.declared.gains.Question.{Question}
 use Rattle.mq_differences.specs.declared.marks.Marked.{Marked}
 use Rattle.mq_differences.specs.declared.reason.Reason.{Reason}
-use Rattle.mq_differences.specs.declared.reason.Reason.TheVariants.{Deny, Grant, NoGrant}
+use Rattle.mq_differences.specs.declared.reason.Reason.TheVariants.{Broker, Deny, Grant, NoGrant}
 use Rattle.mq_differences.specs.declared.way.Way.{Way}
 use Rattle.mq_differences.specs.declared.way.Way.TheVariants.{Gained, Lost}
 use Rattle.mq_differences.proofs.AnyLemmas.{any_kept, any_last}
@@ -59,12 +59,19 @@ pub reason_is : (a b : Reason) → same_reason a b ≡ true → a ≡ b
 reason_is (Deny line) (Deny other) e = ap Deny (line_is line other e)
 reason_is (Deny line) (Grant other) e = absurd (let k : false ≡ true = e in cc)
 reason_is (Deny line) NoGrant e = absurd (let k : false ≡ true = e in cc)
+reason_is (Deny line) Broker e = absurd (let k : false ≡ true = e in cc)
 reason_is (Grant line) (Deny other) e = absurd (let k : false ≡ true = e in cc)
 reason_is (Grant line) (Grant other) e = ap Grant (line_is line other e)
 reason_is (Grant line) NoGrant e = absurd (let k : false ≡ true = e in cc)
+reason_is (Grant line) Broker e = absurd (let k : false ≡ true = e in cc)
 reason_is NoGrant (Deny line) e = absurd (let k : false ≡ true = e in cc)
 reason_is NoGrant (Grant line) e = absurd (let k : false ≡ true = e in cc)
 reason_is NoGrant NoGrant e = refl
+reason_is NoGrant Broker e = absurd (let k : false ≡ true = e in cc)
+reason_is Broker (Deny line) e = absurd (let k : false ≡ true = e in cc)
+reason_is Broker (Grant line) e = absurd (let k : false ≡ true = e in cc)
+reason_is Broker NoGrant e = absurd (let k : false ≡ true = e in cc)
+reason_is Broker Broker e = refl
 
 start_is : (a b : List ℕ) → same_start a b ≡ true → begins_with_dollar a ≡ begins_with_dollar b
 start_is a b e = at (begins_with_dollar a) (begins_with_dollar b) e

@@ -7,6 +7,7 @@ use Rattle.std.specs.Option.{option_map}
 use Rattle.std.proofs.lemmas.Bool.Decides.{nat_tests}
 use Rattle.mq_topic.specs.Texts.{is_name}
 use Rattle.mq_acl.specs.Access.{begins_with_dollar}
+use Rattle.mq_acl.specs.Refused.{refuses}
 use Rattle.mq_acl.specs.Views.{row_views}
 use Rattle.mq_acl.specs.declared.access.Direction.{Direction}
 use Rattle.mq_acl.specs.declared.access.Direction.TheVariants.{Reading, Writing}
@@ -19,14 +20,14 @@ use Rattle.mq_differences.specs.Differences.{AreUnnamed, IsMarked, Shows, is_cha
 use Rattle.mq_differences.specs.Differences.{same_reason, same_start, same_way}
 use Rattle.mq_differences.specs.Questions.{IsGain, IsPoint, IsQuestion}
 use Rattle.mq_differences.specs.Questions.{IsShownBy, class_of, gain_cover}
-use Rattle.mq_differences.specs.Questions.{asked_in, gain_must, gain_reasons, rules_in}
+use Rattle.mq_differences.specs.Questions.{asked_in, gain_must, gain_reasons, open_in, rules_in}
 use Rattle.mq_differences.specs.Reasons.{reason_of}
 use Rattle.mq_differences.specs.Reports.{IsSound}
 use Rattle.mq_differences.specs.declared.difference.Difference.{Difference}
 use Rattle.mq_differences.specs.declared.gains.Gain.{Gain}
 use Rattle.mq_differences.specs.declared.gains.Question.{Question}
 use Rattle.mq_differences.specs.declared.reason.Reason.{Reason}
-use Rattle.mq_differences.specs.declared.reason.Reason.TheVariants.{Deny, Grant, NoGrant}
+use Rattle.mq_differences.specs.declared.reason.Reason.TheVariants.{Broker, Deny, Grant, NoGrant}
 use Rattle.mq_differences.specs.declared.way.Way.{Way}
 use Rattle.mq_differences.specs.declared.way.Way.TheVariants.{Gained, Lost}
 use Rattle.mq_differences.proofs.GainLemmas.{change_by, gain_decides, reasons_by}
@@ -47,6 +48,7 @@ reason_itself : (a : Reason) → same_reason a a ≡ true
 reason_itself (Deny line) = line_itself line
 reason_itself (Grant line) = line_itself line
 reason_itself NoGrant = refl
+reason_itself Broker = refl
 
 start_same : (a b : List ℕ) → begins_with_dollar a ≡ begins_with_dollar b → same_start a b ≡ true
 start_same a b e = at (begins_with_dollar a) (begins_with_dollar b) e
@@ -71,8 +73,8 @@ pub record IsOf (q : Question) (gain : Gain) (w : Witness) (d : Difference) : Ty
 -- where the rows of the gain decide, it is so of a client and a topic
 pub shows_at : (q : Question) (gain : Gain) (w : Witness) (d : Difference) (client : List ℕ)
     (user : Option (List ℕ)) (topic : List ℕ) → IsQuestion q → IsGain q gain
-    → ShowsBy (asked_in q) q.clients (gain_must gain) (gain_cover gain) w
-    → IsOf q gain w d → IsPoint (asked_in q) q.clients client user topic
+    → ShowsBy (open_in q) (asked_in q) q.clients (gain_must gain) (gain_cover gain) w
+    → IsOf q gain w d → IsPoint (open_in q) (asked_in q) q.clients client user topic
     → decides_by (rules_in q) client user topic (gain_must gain) (gain_cover gain) ≡ true
     → Shows (rules_in q) q.lists.now.old.now q.lists.now.new.now d client user topic
 shows_at q gain w d client user topic k g s o p e =
@@ -101,7 +103,7 @@ shows_at q gain w d client user topic k g s o p e =
 -- it is shown of each client and topic where they decide
 pub shown_at : (dollar : Bool) (q : Question) (gain : Gain) (w : Witness) (d : Difference)
     → IsQuestion q → IsGain q gain
-    → ShowsBy (asked_in q) q.clients (gain_must gain) (gain_cover gain) w
+    → ShowsBy (open_in q) (asked_in q) q.clients (gain_must gain) (gain_cover gain) w
     → begins_with_dollar w.name ≡ dollar → IsOf q gain w d → IsShownBy dollar q gain d
 shown_at dollar q gain w d k g s start o client topic user p kind e =
     let rules = rules_in q in
@@ -125,8 +127,8 @@ shown_at dollar q gain w d k g s start o client topic user p kind e =
 -- it is sound
 pub sound_of : (q : Question) (gain : Gain) (w : Witness) (d : Difference)
     → IsQuestion q → IsGain q gain
-    → ShowsBy (asked_in q) q.clients (gain_must gain) (gain_cover gain) w
-    → StandsBy (asked_in q) q.clients (gain_must gain) (gain_cover gain) w
+    → ShowsBy (open_in q) (asked_in q) q.clients (gain_must gain) (gain_cover gain) w
+    → StandsBy (open_in q) (asked_in q) q.clients (gain_must gain) (gain_cover gain) w
     → Knows (asked_in q) w
     → IsOf q gain w d → IsMarked (asked_in q) d → AreUnnamed (asked_in q) d
     → IsSound q.lists.now.old.now q.lists.now.new.now (asked_in q) d
@@ -140,19 +142,24 @@ sound_of q gain w d k g s t n o m u =
       real = at_difference (λ client user topic. Shows rules old new d client user topic) user
           o.client o.topic
           (shows_at q gain w d (string_bytes w.client) (user_view w.user) w.name k g s o
-          (record { is_asked = s.is_asked; valid = s.valid }) s.decided);
+          (record { is_asked = s.is_asked; valid = s.valid; taken = s.taken }) s.decided);
       marked = m;
       unnamed = u;
       known = at_difference (λ client user topic. AreKnown (asked_in q) client user topic)
           user o.client o.topic n;
-      stands = λ text other stands valid.
+      stands = λ text other stands valid taken.
           at_difference (λ client user topic. Shows rules old new d (swap text other client)
           (swap_user text other user) (swap_name text other topic)) user o.client o.topic
           (let is_shown = t text other stands
-          (subst (λ n. is_name (swap_name text other n) ≡ true) o.topic valid) in
+          (subst (λ n. is_name (swap_name text other n) ≡ true) o.topic valid)
+          ((λ i. refuses rules (sym o.direction i) (swap_name text other (sym o.topic i))) ∙ taken) in
           shows_at q gain w d (swap text other (string_bytes w.client))
           (swap_user text other (user_view w.user)) (swap_name text other w.name) k g s o
-          (record { is_asked = is_shown.is_asked; valid = is_shown.valid }) is_shown.decided);
+          (record {
+            is_asked = is_shown.is_asked;
+            valid = is_shown.valid;
+            taken = is_shown.taken;
+          }) is_shown.decided);
     }
   where
     at_difference : (P : List ℕ → Option (List ℕ) → List ℕ → Type 0)

@@ -12,6 +12,7 @@ use Rattle.mq_differences.specs.Differences.{is_change, is_compared, is_shown_of
 use Rattle.mq_differences.specs.Questions.{AreRowsFor, IsPoint}
 use Rattle.mq_differences.specs.declared.changes.ClassRows.{ClassRows}
 use Rattle.mq_differences.specs.declared.difference.Difference.{Difference}
+use Rattle.mq_witness.specs.declared.topics.Topics.TheVariants.{Open}
 use Rattle.mq_differences.specs.declared.lists.Lists.{Lists}
 use Rattle.mq_differences.specs.declared.way.Way.{Way}
 
@@ -24,7 +25,7 @@ pub record AreClassRows (lists : Lists) (rows : ClassRows) : Type 0 where
 -- what these clients gain, or lose, in this direction is shown
 abbrev pub ShowsChangesIn : Lists → Clients → Way → Direction → List Difference → Type 0
 ShowsChangesIn lists clients way direction shown = (client topic : List ℕ) (user : Option (List ℕ))
-    → IsPoint lists.asked clients client user topic
+    → IsPoint (Open direction) lists.asked clients client user topic
     → is_change lists.asked.rules way (row_views lists.old.now) (row_views lists.new.now) client
     user topic direction ≡ true
     → list_any (is_shown_of lists.asked.rules lists.old.now lists.new.now way direction client user topic) shown ≡ true

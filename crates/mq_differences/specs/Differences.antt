@@ -9,6 +9,7 @@ use Rattle.mq_topic.specs.Texts.{is_name}
 use Rattle.mq_acl.specs.AccessLists.{allow_by}
 use Rattle.mq_acl.specs.declared.rules.Rules.{Rules}
 use Rattle.mq_acl.specs.Access.{begins_with_dollar}
+use Rattle.mq_acl.specs.Refused.{refuses}
 use Rattle.mq_acl.specs.Rows.{AclRow}
 use Rattle.mq_acl.specs.Views.{row_views}
 use Rattle.mq_acl.specs.declared.row.Row.{Row}
@@ -25,7 +26,7 @@ use Rattle.mq_differences.specs.declared.class.Class.{Class}
 use Rattle.mq_differences.specs.declared.class.Class.TheVariants.{Anonymous, User, Others}
 use Rattle.mq_differences.specs.declared.difference.Difference.{Difference}
 use Rattle.mq_differences.specs.declared.reason.Reason.{Reason}
-use Rattle.mq_differences.specs.declared.reason.Reason.TheVariants.{Deny, Grant, NoGrant}
+use Rattle.mq_differences.specs.declared.reason.Reason.TheVariants.{Broker, Deny, Grant, NoGrant}
 use Rattle.mq_differences.specs.declared.way.Way.{Way}
 use Rattle.mq_differences.specs.declared.way.Way.TheVariants.{Gained, Lost}
 
@@ -66,6 +67,7 @@ abbrev pub same_reason : Reason → Reason → Bool
 same_reason (Deny line) (Deny other) = line == other
 same_reason (Grant line) (Grant other) = line == other
 same_reason NoGrant NoGrant = true
+same_reason Broker Broker = true
 same_reason reason other = false
 
 -- both begin with `$`, or neither does
@@ -145,10 +147,11 @@ IsMarked asked d = (text : List ℕ)
     → has_text d.placeholders.items text
     ≡ (is_of text (string_bytes d.client) (user_of d.class) d.topic && is_placeholder text asked)
 
--- it is so too with any text in the place of a placeholder that stands for it
+-- it is so too with any text in the place of a placeholder that stands for it, where the broker doesn't refuse that topic
 abbrev pub ShowsOthers : Rules → (old new : List Row) → AskedRows → Difference → Type 0
 ShowsOthers rules old new asked d = (text other : List ℕ) → StandsFor asked text other
     → is_name (swap_name text other d.topic) ≡ true
+    → refuses rules d.direction (swap_name text other d.topic) ≡ false
     → Shows rules old new d (swap text other (string_bytes d.client))
     (swap_user text other (user_of d.class)) (swap_name text other d.topic)
 

@@ -11,7 +11,7 @@ use Rattle.mq_differences.specs.declared.difference.Difference.{Difference}
 use Rattle.mq_differences.specs.declared.group.Gathering.{Gathering}
 use Rattle.mq_differences.specs.declared.group.Group.{Group}
 use Rattle.mq_differences.specs.declared.reason.Reason.{Reason}
-use Rattle.mq_differences.specs.declared.reason.Reason.TheVariants.{Deny, Grant, NoGrant}
+use Rattle.mq_differences.specs.declared.reason.Reason.TheVariants.{Broker, Deny, Grant, NoGrant}
 
 -- of the same way, direction and topic, and decided by the same lines
 abbrev pub is_alike : Difference → Difference → Bool
@@ -43,6 +43,7 @@ abbrev pub line_of : Reason → ℕ
 line_of (Deny line) = line
 line_of (Grant line) = line
 line_of NoGrant = 0
+line_of Broker = 0
 
 -- the same for all that are alike: the lines that decide, and the topic
 abbrev pub key_of : Difference → List ℕ

@@ -12,9 +12,12 @@ use Rattle.mq_acl.specs.declared.access.Direction.{Direction}
 use Rattle.mq_acl.specs.declared.row.Row.{Row}
 use Rattle.mq_acl.specs.declared.rules.Rules.{Rules}
 use Rattle.mq_witness.specs.Asked.{AskedRows, IsListed}
+use Rattle.mq_witness.specs.Names.{refused_of}
 use Rattle.mq_witness.specs.Ruled.{IsAskedOf, decides_by}
 use Rattle.mq_witness.specs.declared.clients.Clients.{Clients}
 use Rattle.mq_witness.specs.declared.clients.Clients.TheVariants as clients
+use Rattle.mq_witness.specs.declared.topics.Topics.{Topics}
+use Rattle.mq_witness.specs.declared.topics.Topics.TheVariants.{Open}
 use Rattle.mq_differences.specs.ByOwner.{IsGrouped, is_for}
 use Rattle.mq_differences.specs.Differences.{is_change, is_shown_of}
 use Rattle.mq_differences.specs.Faults.{rows_of as rows_on}
@@ -126,16 +129,21 @@ pub record IsQuestion (q : Question) : Type 0 where
   pub to : AreJudges (rules_in q) (rows_with q.way q.lists.now.old.now q.lists.now.new.now)
       (rows_without q.way q.lists.now.old.now q.lists.now.new.now) q.clients q.direction q.to.now
 
--- a client that is asked about, and a topic
-pub record IsPoint (asked : AskedRows) (clients : Clients) (client : List ℕ)
+-- a client that is asked about, and one of these topics
+pub record IsPoint (topics : Topics) (asked : AskedRows) (clients : Clients) (client : List ℕ)
     (user : Option (List ℕ)) (topic : List ℕ) : Type 0 where
   pub is_asked : IsAskedOf asked clients client user
   pub valid : is_name topic ≡ true
+  pub taken : refused_of asked.rules topics topic ≡ false
+
+-- the topics of a question: what the broker refuses by itself is neither gained nor lost
+abbrev pub open_in : Question → Topics
+open_in q = Open q.direction
 
 -- no topic of these clients is concerned by all of the rows
 abbrev pub NeverMeet : Question → (must : List AclRow) → Type 0
 NeverMeet q must = (client topic : List ℕ) (user : Option (List ℕ))
-    → IsPoint (asked_in q) q.clients client user topic
+    → IsPoint (open_in q) (asked_in q) q.clients client user topic
     → decides_by (rules_in q) client user topic must [] ≡ false
 
 abbrev pub is_shown : Question → List ℕ → Option (List ℕ) → List ℕ → Difference → Bool
@@ -145,14 +153,14 @@ is_shown q client user topic d = is_shown_of (rules_in q) q.lists.now.old.now q.
 -- where these rows concern it and those don't, it is shown
 abbrev pub AreShown : Question → (must cover : List AclRow) → List Difference → Type 0
 AreShown q must cover shown = (client topic : List ℕ) (user : Option (List ℕ))
-    → IsPoint (asked_in q) q.clients client user topic
+    → IsPoint (open_in q) (asked_in q) q.clients client user topic
     → decides_by (rules_in q) client user topic must cover ≡ true
     → list_any (is_shown q client user topic) shown ≡ true
 
 -- so it is of topics that begin with `$`, or of the others
 abbrev pub AreShownOf : Bool → Question → (must cover : List AclRow) → List Difference → Type 0
 AreShownOf dollar q must cover shown = (client topic : List ℕ) (user : Option (List ℕ))
-    → IsPoint (asked_in q) q.clients client user topic → begins_with_dollar topic ≡ dollar
+    → IsPoint (open_in q) (asked_in q) q.clients client user topic → begins_with_dollar topic ≡ dollar
     → decides_by (rules_in q) client user topic must cover ≡ true
     → list_any (is_shown q client user topic) shown ≡ true
 
@@ -207,7 +215,7 @@ gain_reasons Lost gain =
 -- where its rows decide about topics of a kind, the difference is shown of it
 abbrev pub IsShownBy : Bool → Question → Gain → Difference → Type 0
 IsShownBy dollar q gain d = (client topic : List ℕ) (user : Option (List ℕ))
-    → IsPoint (asked_in q) q.clients client user topic → begins_with_dollar topic ≡ dollar
+    → IsPoint (open_in q) (asked_in q) q.clients client user topic → begins_with_dollar topic ≡ dollar
     → decides_by (rules_in q) client user topic (gain_must gain) (gain_cover gain) ≡ true
     → is_shown q client user topic d ≡ true
 
@@ -245,7 +253,7 @@ pub record AreShownBy (q : Question) (before : List Marked) (grant : Marked)
 -- all that these clients gain, or lose, is shown
 abbrev pub ShowsChanges : Question → List Difference → Type 0
 ShowsChanges q shown = (client topic : List ℕ) (user : Option (List ℕ))
-    → IsPoint (asked_in q) q.clients client user topic
+    → IsPoint (open_in q) (asked_in q) q.clients client user topic
     → is_change (rules_in q) q.way (row_views q.lists.now.old.now) (row_views q.lists.now.new.now)
     client user topic q.direction ≡ true
     → list_any (is_shown q client user topic) shown ≡ true

@@ -3,6 +3,7 @@ use Rattle.std.specs.Prelude.{ℕ, Bool, true, false, List, ◌==◌, ◌&&◌, 
 use Rattle.std.specs.Prelude.{if◌then◌else◌}
 use Rattle.mq_acl.specs.Access.{grants, is_deny}
 use Rattle.mq_acl.specs.AccessLists.{concerns_by, user_by}
+use Rattle.mq_acl.specs.Refused.{refuses}
 use Rattle.mq_acl.specs.Rows.{AclRow}
 use Rattle.mq_acl.specs.Views.{row_view}
 use Rattle.mq_acl.specs.declared.access.Direction.{Direction}
@@ -10,7 +11,7 @@ use Rattle.mq_acl.specs.declared.row.Row.{Row}
 use Rattle.mq_acl.specs.declared.rules.Rules.{Rules}
 use Rattle.mq_differences.specs.Ranks.{is_judge, judges, rank}
 use Rattle.mq_differences.specs.declared.reason.Reason.{Reason}
-use Rattle.mq_differences.specs.declared.reason.Reason.TheVariants.{Deny, Grant, NoGrant}
+use Rattle.mq_differences.specs.declared.reason.Reason.TheVariants.{Broker, Deny, Grant, NoGrant}
 
 -- the row is of this rank, may decide, and concerns the topic
 abbrev pub decides_at : Rules → Direction → ℕ → List ℕ → Option (List ℕ) → List ℕ → AclRow → Bool
@@ -38,11 +39,12 @@ reason_by (Some row) =
     if is_deny (row_view row).access then Deny row.line else Grant row.line
 
 abbrev pub reason_of : Rules → List Row → List ℕ → Option (List ℕ) → List ℕ → Direction → Reason
-reason_of rules rows client user topic direction =
-    reason_by (decider rules rows client user topic direction)
+reason_of rules rows client user topic direction = if refuses rules direction topic then Broker
+    else reason_by (decider rules rows client user topic direction)
 
 -- the client may
 abbrev pub is_grant : Reason → Bool
 is_grant (Deny line) = false
 is_grant (Grant line) = true
 is_grant NoGrant = false
+is_grant Broker = false

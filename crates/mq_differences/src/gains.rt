@@ -13,7 +13,7 @@ ghost use Rattle.mq_differences.specs.Questions.{IsPlaced, IsQuestion, IsStop, I
 ghost use Rattle.mq_differences.specs.Questions.{NeverMeet};
 ghost use Rattle.mq_differences.specs.Questions.{ShowsChanges, class_of, gain_cover, gain_must};
 ghost use Rattle.mq_differences.specs.Questions.{asked_in, gain_reasons, granted_cover, must_of};
-ghost use Rattle.mq_differences.specs.Questions.{IsSplit, side_with};
+ghost use Rattle.mq_differences.specs.Questions.{IsSplit, open_in, side_with};
 ghost use Rattle.mq_differences.specs.Ranks.{rank};
 ghost use Rattle.mq_differences.specs.Reports.{Grows, IsSound};
 ghost use Rattle.std.specs.Prelude.{None};
@@ -31,7 +31,7 @@ use crate::report::Report;
 use crate::way::Way;
 use crate::work::work_of;
 use mq_acl::{Direction, Row, Rules, is_deny};
-use mq_witness::{Clients, Witness};
+use mq_witness::{Clients, Topics, Witness};
 use std::alloc::{AllocError, Global};
 
 // So many rows are gathered for clients of one class, or so many pairs of rows skipped, in the time
@@ -111,10 +111,10 @@ fn difference_of(
 ) -> Result<Difference, AllocError>
     requires question { IsQuestion question.now }
     requires gain { IsGain question.now gain.now }
-    requires shows { ShowsBy (asked_in question.now) question.now.clients
+    requires shows { ShowsBy (open_in question.now) (asked_in question.now) question.now.clients
         (gain_must gain.now) (gain_cover gain.now) witness }
     requires kind { begins_with_dollar witness.name ≡ dollar }
-    requires stands { StandsBy (asked_in question.now) question.now.clients
+    requires stands { StandsBy (open_in question.now) (asked_in question.now) question.now.clients
         (gain_must gain.now) (gain_cover gain.now) witness }
     requires known { Knows (asked_in question.now) witness }
     ensures sound { IfOk result (IsSound question.entry.now.lists.now.old.now
@@ -195,11 +195,12 @@ fn can_meet<'a>(
         return Ok(true);
     }
     let asked = &question.lists.asked;
-    let plain = asked.find_kind(alloc, question.clients, false, must, &must[..0])?;
+    let open = Topics::Open(question.direction);
+    let plain = asked.find_kind(alloc, question.clients, false, open, must, &must[..0])?;
     if plain.is_some() {
         return Ok(true);
     }
-    let begun = asked.find_kind(alloc, question.clients, true, must, &must[..0])?;
+    let begun = asked.find_kind(alloc, question.clients, true, open, must, &must[..0])?;
     if begun.is_none() {
         return Ok(false);
     }
@@ -227,7 +228,8 @@ fn add_kind<'a>(
         (gain_cover gain.entry.now) report.new.differences.items) }
 {
     let asked = &question.lists.asked;
-    let Some(witness) = asked.find_kind(alloc, question.clients, dollar, must, cover)? else {
+    let open = Topics::Open(question.direction);
+    let Some(witness) = asked.find_kind(alloc, question.clients, dollar, open, must, cover)? else {
         return Ok(());
     };
     let difference = difference_of(alloc, question, gain, dollar, witness)?;

@@ -46,7 +46,7 @@ fn line_of(reason: Reason) -> u64
 {
     match reason {
         Reason::Deny(line) | Reason::Grant(line) => line,
-        Reason::NoGrant => 0,
+        Reason::NoGrant | Reason::Broker => 0,
     }
 }
 

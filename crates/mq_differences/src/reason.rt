@@ -3,7 +3,7 @@ ghost use Rattle.std.specs.Option.{option_copied};
 ghost use Rattle.mq_differences.specs.Reasons.{reason_by, reason_of};
 
 use crate::decision::Request;
-use mq_acl::{Row, is_deny};
+use mq_acl::{Row, is_deny, refuses};
 
 /// What decides whether a client may read or write a topic. Lines are counted from 1.
 #[derive(Clone, Copy, Drop, PartialEq, Eq)]
@@ -14,6 +14,8 @@ pub enum Reason {
     Grant(u64),
     /// No line denies it and none grants it: it may not.
     NoGrant,
+    /// The broker refuses it, whatever its list says (`mq_acl::refuses`): it may not.
+    Broker,
 }
 
 impl Reason {
@@ -21,7 +23,7 @@ impl Reason {
     pub fn line(self) -> Option<u64> {
         match self {
             Reason::Deny(line) | Reason::Grant(line) => Some(line),
-            Reason::NoGrant => None,
+            Reason::NoGrant | Reason::Broker => None,
         }
     }
 }
@@ -44,5 +46,8 @@ pub(crate) fn reason_for(rows: &[Row], request: &Request) -> Reason
     ensures { result ≡ reason_of request.now.rules rows.now request.now.client.now
         (option_copied request.now.user) request.now.topic.now request.now.direction }
 {
+    if refuses(request.rules, request.direction, request.topic) {
+        return Reason::Broker;
+    }
     reason_by(request.decider(rows))
 }

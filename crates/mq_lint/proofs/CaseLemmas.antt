@@ -23,6 +23,8 @@ use Rattle.mq_witness.specs.declared.witness.Witness.{Witness}
 use Rattle.mq_witness.specs.Rows.{lent_rows}
 use Rattle.mq_witness.specs.Ruled.{FindsNoneBy, IsAskedOf, ShowsBy, decides_by}
 use Rattle.mq_witness.specs.declared.clients.Clients.{Clients}
+use Rattle.mq_witness.specs.declared.topics.Topics.{Topics}
+use Rattle.mq_witness.specs.declared.topics.Topics.TheVariants.{Open}
 use Rattle.mq_differences.specs.ByOwner.{is_for, is_own}
 use Rattle.mq_differences.proofs.FirstLemmas.{All-unmap}
 use Rattle.mq_differences.specs.Classes.{can_be_user}
@@ -37,7 +39,8 @@ use Rattle.mq_lint.specs.Cases.{is_at, is_before, others_of}
 use Rattle.mq_lint.proofs.PointLemmas.{AreFor, any_others, any_tested, below_1, below_2, below_3}
 use Rattle.mq_lint.proofs.PointLemmas.{below_4, for_clients, no_4, no_5, no_6, other_01, other_03, other_1}
 use Rattle.mq_lint.proofs.PointLemmas.{other_12, other_23, other_3, same_0, same_1, same_2, same_3}
-use Rattle.mq_lint.proofs.PointLemmas.{seen_other, seen_same, unconcerned, undecided}
+use Rattle.mq_lint.proofs.PointLemmas.{other_allowed, same_allowed, seen_other, seen_same}
+use Rattle.mq_lint.proofs.PointLemmas.{unconcerned, undecided}
 use Rattle.mq_lint.proofs.SameLemmas.{row_contained}
 
 -- ---- what can be asked
@@ -131,22 +134,22 @@ point_asked asked c client user p =
     rw (p.client_fits, client_user asked c user p.user_fits, p.are_asked) refl
 
 -- topics that begin with `$`, and the others
-pub none_of_both : (asked : AskedRows) (c : Clients) (must cover : List AclRow)
-    → FindsNoneBy false asked c must cover → FindsNoneBy true asked c must cover
-    → FindsNone asked c must cover
-none_of_both asked c must cover f g client name user p = at (begins_with_dollar name) refl
+pub none_of_both : (topics : Topics) (asked : AskedRows) (c : Clients) (must cover : List AclRow)
+    → FindsNoneBy false topics asked c must cover → FindsNoneBy true topics asked c must cover
+    → FindsNone topics asked c must cover
+none_of_both topics asked c must cover f g client name user p = at (begins_with_dollar name) refl
   where
     at : (b : Bool) → begins_with_dollar name ≡ b
         → decides_by asked.rules client user name must cover ≡ false
-    at true e = g client name user p.is_asked p.valid e
-    at false e = f client name user p.is_asked p.valid e
+    at true e = g client name user p.is_asked p.valid e p.taken
+    at false e = f client name user p.is_asked p.valid e p.taken
 
 -- what was found shows it
-pub found_by : (asked : AskedRows) (c : Clients) (must cover : List AclRow)
-    (found : Option Witness) → is_some found ≡ true → IfSome found (ShowsBy asked c must cover)
-    → Finds asked c must cover
-found_by asked c must cover None e s = absurd (let q : false ≡ true = e in cc)
-found_by asked c must cover (Some w) e s = record {
+pub found_by : (topics : Topics) (asked : AskedRows) (c : Clients) (must cover : List AclRow)
+    (found : Option Witness) → is_some found ≡ true
+    → IfSome found (ShowsBy topics asked c must cover) → Finds topics asked c must cover
+found_by topics asked c must cover None e s = absurd (let q : false ≡ true = e in cc)
+found_by topics asked c must cover (Some w) e s = record {
   client = string_bytes w.client;
   user = user_view w.user;
   name = w.name;
@@ -177,7 +180,7 @@ both rules client user name row other cover e =
 -- ---- the rows of a rank
 module _ (asked : AskedRows) (rows : List AclRow) (within : All (Contains asked.rows) rows)
     (clients : Clients) (row : AclRow) (direction : Direction) (client name : List ℕ)
-    (user : Option (List ℕ)) (p : IsPoint asked clients client user name) where
+    (user : Option (List ℕ)) (p : IsPoint (Open direction) asked clients client user name) where
   abbrev c : AclRow → Bool
   c r = concerns_by asked.rules client user name r
 
@@ -259,23 +262,27 @@ module _ (asked : AskedRows) (rows : List AclRow) (within : All (Contains asked.
       → allow_by asked.rules rows client user name direction
       ≡ allow_by asked.rules left client user name direction
   same_by false true v so h j here next last none =
-      seen_same asked.rules client user name direction row rows 0 user_fits h j here v
+      same_allowed asked.rules client user name direction rows left
+      (seen_same asked.rules client user name direction row rows 0 user_fits h j here v
       (same_0 (some 0) (some 1) (some 2) (some 3)
       (λ e. sym (below_1 asked.rules direction c left) ∙ reached 1 here next e)
-      (λ e. sym (below_3 asked.rules direction c left) ∙ reached 3 here last e))
+      (λ e. sym (below_3 asked.rules direction c left) ∙ reached 3 here last e)))
   same_by false false v so h j here next last none =
-      seen_same asked.rules client user name direction row rows 1 user_fits h j here v
+      same_allowed asked.rules client user name direction rows left
+      (seen_same asked.rules client user name direction row rows 1 user_fits h j here v
       (same_1 (some 0) (some 1) (some 2) (some 3)
       (λ e. sym (below_2 asked.rules direction c left) ∙ reached 2 here next e)
-      (sym (below_4 asked.rules direction c left) ∙ decided_there here so none))
+      (sym (below_4 asked.rules direction c left) ∙ decided_there here so none)))
   same_by true true v so h j here next last none =
-      seen_same asked.rules client user name direction row rows 2 user_fits h j here v
+      same_allowed asked.rules client user name direction rows left
+      (seen_same asked.rules client user name direction row rows 2 user_fits h j here v
       (same_2 (some 0) (some 1) (some 2) (some 3)
-      (λ e. sym (below_3 asked.rules direction c left) ∙ reached 3 here next e))
+      (λ e. sym (below_3 asked.rules direction c left) ∙ reached 3 here next e)))
   same_by true false v so h j here next last none =
-      seen_same asked.rules client user name direction row rows 3 user_fits h j here v
+      same_allowed asked.rules client user name direction rows left
+      (seen_same asked.rules client user name direction row rows 3 user_fits h j here v
       (same_3 (some 0) (some 1) (some 2) (some 3)
-      (sym (below_4 asked.rules direction c left) ∙ decided_there here so none))
+      (sym (below_4 asked.rules direction c left) ∙ decided_there here so none)))
 
   -- ---- where one does, the row is needed
   -- a row of the rank is among those that are left
@@ -301,20 +308,23 @@ module _ (asked : AskedRows) (rows : List AclRow) (within : All (Contains asked.
       → is_at asked.rules direction (rank_of e d + 1) other ≡ true → c other ≡ true
       → list_any c (before asked.rules direction (rank_of e d + 1) others) ≡ false → IsOther
   next_differs false true v h j here other inside is there none =
-      seen_other asked.rules client user name direction row rows 0 user_fits h j here v
+      other_allowed asked.rules client user name direction rows left p.taken
+      (seen_other asked.rules client user name direction row rows 0 user_fits h j here v
       (other_01 (some 0) (some 1) (some 2) (some 3)
       (sym (below_1 asked.rules direction c left) ∙ (sym (covered_is 1) ∙ none))
-      (some_left 1 other inside is there))
+      (some_left 1 other inside is there)))
   next_differs false false v h j here other inside is there none =
-      seen_other asked.rules client user name direction row rows 1 user_fits h j here v
+      other_allowed asked.rules client user name direction rows left p.taken
+      (seen_other asked.rules client user name direction row rows 1 user_fits h j here v
       (other_12 (some 0) (some 1) (some 2) (some 3)
       (sym (below_2 asked.rules direction c left) ∙ (sym (covered_is 2) ∙ none))
-      (some_left 2 other inside is there))
+      (some_left 2 other inside is there)))
   next_differs true true v h j here other inside is there none =
-      seen_other asked.rules client user name direction row rows 2 user_fits h j here v
+      other_allowed asked.rules client user name direction rows left p.taken
+      (seen_other asked.rules client user name direction row rows 2 user_fits h j here v
       (other_23 (some 0) (some 1) (some 2) (some 3)
       (sym (below_3 asked.rules direction c left) ∙ (sym (covered_is 3) ∙ none))
-      (some_left 3 other inside is there))
+      (some_left 3 other inside is there)))
   next_differs true false v h j here other inside is there none =
       absurd (none_there 4 other (no_4 asked.rules other) is)
 
@@ -323,10 +333,11 @@ module _ (asked : AskedRows) (rows : List AclRow) (within : All (Contains asked.
       → is_at asked.rules direction (rank_of e d + 3) other ≡ true → c other ≡ true
       → list_any c (before asked.rules direction (rank_of e d + 3) others) ≡ false → IsOther
   last_differs false true v h j here other inside is there none =
-      seen_other asked.rules client user name direction row rows 0 user_fits h j here v
+      other_allowed asked.rules client user name direction rows left p.taken
+      (seen_other asked.rules client user name direction row rows 0 user_fits h j here v
       (other_03 (some 0) (some 1) (some 2) (some 3)
       (sym (below_3 asked.rules direction c left) ∙ (sym (covered_is 3) ∙ none))
-      (some_left 3 other inside is there))
+      (some_left 3 other inside is there)))
   last_differs false false v h j here other inside is there none =
       absurd (none_there 4 other (no_4 asked.rules other) is)
   last_differs true true v h j here other inside is there none =
@@ -341,25 +352,31 @@ module _ (asked : AskedRows) (rows : List AclRow) (within : All (Contains asked.
   alone_differs e true v so permits h j here none =
       absurd (both_ways (is_deny row.access) permits so)
   alone_differs false false v so permits h j here none =
-      seen_other asked.rules client user name direction row rows 1 user_fits h j here v
+      other_allowed asked.rules client user name direction rows left p.taken
+      (seen_other asked.rules client user name direction row rows 1 user_fits h j here v
       (other_1 (some 0) (some 1) (some 2) (some 3)
-      (sym (below_4 asked.rules direction c left) ∙ (sym (covered_is 4) ∙ none)))
+      (sym (below_4 asked.rules direction c left) ∙ (sym (covered_is 4) ∙ none))))
   alone_differs true false v so permits h j here none =
-      seen_other asked.rules client user name direction row rows 3 user_fits h j here v
+      other_allowed asked.rules client user name direction rows left p.taken
+      (seen_other asked.rules client user name direction row rows 3 user_fits h j here v
       (other_3 (some 0) (some 1) (some 2) (some 3)
-      (sym (below_4 asked.rules direction c left) ∙ (sym (covered_is 4) ∙ none)))
+      (sym (below_4 asked.rules direction c left) ∙ (sym (covered_is 4) ∙ none))))
 
 -- ---- what a case says
 ranked_as : (rules : Rules) (row : AclRow) → (e : Bool) × (rank rules row ≡ rank_of e (is_deny row.access))
 ranked_as Own row = (false, refl)
 ranked_as Mosquitto row = (is_everyones row.who, refl)
 
-abbrev found_point : (asked : AskedRows) (c : Clients) (must cover : List AclRow)
-    (f : Finds asked c must cover) → IsPoint asked c f.client f.user f.name
-found_point asked c must cover f = record { is_asked = f.shown.is_asked; valid = f.shown.valid }
+abbrev found_point : (topics : Topics) (asked : AskedRows) (c : Clients) (must cover : List AclRow)
+    (f : Finds topics asked c must cover) → IsPoint topics asked c f.client f.user f.name
+found_point topics asked c must cover f = record {
+  is_asked = f.shown.is_asked;
+  valid = f.shown.valid;
+  taken = f.shown.taken;
+}
 
 found_needed : (asked : AskedRows) (rows : List AclRow) (c : Clients) (row : AclRow)
-    (direction : Direction) (must cover : List AclRow) (f : Finds asked c must cover)
+    (direction : Direction) (must cover : List AclRow) (f : Finds (Open direction) asked c must cover)
     → allow_by asked.rules rows f.client f.user f.name direction
     ≢ allow_by asked.rules (without row rows) f.client f.user f.name direction
     → IsNeeded asked rows row
@@ -390,7 +407,7 @@ next_needed asked rows within c row direction h j w =
         let says = both asked.rules f.client f.user f.name row w.other cover f.shown.decided in
         found_needed asked rows c row direction (row ∷ (w.other ∷ [])) cover f
         (next_differs asked rows within c row direction f.client f.name f.user
-        (found_point asked c (row ∷ (w.other ∷ [])) cover f) e (is_deny row.access) v h j says.here
+        (found_point (Open direction) asked c (row ∷ (w.other ∷ [])) cover f) e (is_deny row.access) v h j says.here
         w.other w.inside w.is_of says.there says.covered)
 
 pub last_needed : (asked : AskedRows) (rows : List AclRow) (within : All (Contains asked.rows) rows)
@@ -410,7 +427,7 @@ last_needed asked rows within c row direction h j w =
         let says = both asked.rules f.client f.user f.name row w.other cover f.shown.decided in
         found_needed asked rows c row direction (row ∷ (w.other ∷ [])) cover f
         (last_differs asked rows within c row direction f.client f.name f.user
-        (found_point asked c (row ∷ (w.other ∷ [])) cover f) e (is_deny row.access) v h j says.here
+        (found_point (Open direction) asked c (row ∷ (w.other ∷ [])) cover f) e (is_deny row.access) v h j says.here
         w.other w.inside w.is_of says.there says.covered)
 
 pub alone_needed : (asked : AskedRows) (rows : List AclRow) (within : All (Contains asked.rows) rows)
@@ -425,7 +442,7 @@ alone_needed asked rows within c row direction h j w =
     let says = and_parts (here row && true) (not (list_any here cover)) f.shown.decided in
     found_needed asked rows c row direction (row ∷ []) cover f
     (alone_differs asked rows within c row direction f.client f.name f.user
-    (found_point asked c (row ∷ []) cover f) v.0 (is_deny row.access) v.1 refl w.grants_it h j
+    (found_point (Open direction) asked c (row ∷ []) cover f) v.0 (is_deny row.access) v.1 refl w.grants_it h j
     (and_parts (here row) true says.0).0 (not-true (list_any here cover) says.1))
 
 pub needless_in : (asked : AskedRows) (rows : List AclRow) (within : All (Contains asked.rows) rows)
@@ -445,8 +462,9 @@ needless_in asked rows within c row direction h j next last none client name use
         same_by asked rows within c row direction client name user p v.0 (is_deny row.access) v.1 refl h j e
         (subst (λ n. NoneAt asked rows c row direction (n + 1)) v.1 next)
         (subst (λ n. NoneAt asked rows c row direction (n + 3)) v.1 last) none
-    at false e = unconcerned asked.rules client user name direction row rows
-        (client_user asked c user p.is_asked.user_fits) h e
+    at false e = same_allowed asked.rules client user name direction rows (without row rows)
+        (unconcerned asked.rules client user name direction row rows
+        (client_user asked c user p.is_asked.user_fits) h e)
 
 -- a row that may not decide about the direction
 pub needless_elsewhere : (asked : AskedRows) (rows : List AclRow) (within : All (Contains asked.rows) rows)
@@ -454,8 +472,9 @@ pub needless_elsewhere : (asked : AskedRows) (rows : List AclRow) (within : All 
     → has_row row rows ≡ true → is_judge direction row ≡ false
     → IsNeedlessIn asked rows c row direction
 needless_elsewhere asked rows within c row direction h j client name user p =
-    undecided asked.rules client user name direction row rows
-    (client_user asked c user p.is_asked.user_fits) h j
+    same_allowed asked.rules client user name direction rows (without row rows)
+    (undecided asked.rules client user name direction row rows
+    (client_user asked c user p.is_asked.user_fits) h j)
 
 -- in both directions
 pub needless_to : (asked : AskedRows) (rows : List AclRow) (c : Clients) (row : AclRow)

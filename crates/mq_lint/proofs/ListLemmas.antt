@@ -15,6 +15,7 @@ use Rattle.mq_witness.specs.Asked.{AskedRows, is_client_of}
 use Rattle.mq_witness.specs.Clients.{can_be_id}
 use Rattle.mq_witness.specs.Ruled.{are_asked_of, decides_by}
 use Rattle.mq_witness.specs.declared.clients.Clients.{Clients}
+use Rattle.mq_witness.specs.declared.topics.Topics.TheVariants as topics
 use Rattle.mq_differences.specs.ByOwner.{is_for}
 use Rattle.mq_differences.specs.Classes.{can_be_user}
 use Rattle.mq_differences.proofs.FirstLemmas.{All-unmap, IsFirst, first_place}
@@ -23,7 +24,8 @@ use Rattle.mq_lint.specs.Needless.{AllowSame, DeniesNone, Meet, is_asked, same_r
 use Rattle.mq_lint.specs.Cases.{AreClasses, Finds, FindsNone, IsNeedlessTo, MeetsGrant, NoneMeets}
 use Rattle.mq_lint.specs.Cases.{has_row, others_of, permits}
 use Rattle.mq_lint.proofs.CaseLemmas.{both, point_asked}
-use Rattle.mq_lint.proofs.PointLemmas.{any_others, for_clients, unconcerned}
+use Rattle.mq_lint.proofs.PointLemmas.{any_others, for_clients, same_allowed, unconcerned}
+use Rattle.mq_lint.proofs.PointLemmas.{unless_refused}
 use Rattle.mq_lint.proofs.SameLemmas.{any_kept, row_contained, row_is, row_itself}
 
 -- ---- the class of a client
@@ -62,7 +64,8 @@ needless_all asked rows row classes h are each client name user direction a v =
     at true e =
         let fits = asked_parts asked.rules asked.rows client user a in
         let class = class_of asked row classes client user name are fits.1 e in
-        each class.place class.item class.in_range direction client name user
+        unless_refused asked.rules client user name direction rows (without row rows)
+        (λ taken. each class.place class.item class.in_range direction client name user
         (record {
           is_asked = record {
             client_fits = fits.0;
@@ -70,9 +73,11 @@ needless_all asked rows row classes h are each client name user direction a v =
             are_asked = fits.2;
           };
           valid = v;
-        })
-    at false e = unconcerned asked.rules client user name direction row rows
-        (asked_parts asked.rules asked.rows client user a).1 h e
+          taken = taken;
+        }))
+    at false e = same_allowed asked.rules client user name direction rows (without row rows)
+        (unconcerned asked.rules client user name direction row rows
+        (asked_parts asked.rules asked.rows client user a).1 h e)
 
 -- ---- a row that denies nothing
 denies_apart : (a b : AclRow) → is_deny a.access ≡ false → is_deny b.access ≡ true
@@ -118,7 +123,7 @@ meets rules client user name row other e f = rw (e, f) refl
 -- no row that grants meets it
 pub denies_none : (rows : List Row) (asked : AskedRows) (row : AclRow) (classes : List Clients)
     → asked.rows ≡ row_views rows → is_deny row.access ≡ true → AreClasses asked row.who classes
-    → All (λ c. NoneMeets asked c row permits [] (others_of c row asked.rows)) classes
+    → All (λ c. NoneMeets topics.All asked c row permits [] (others_of c row asked.rows)) classes
     → DeniesNone asked.rules rows row
 denies_none rows asked row classes is so are each = record {
   denies = so;
@@ -142,7 +147,7 @@ denies_none rows asked row classes is so are each = record {
         let kept = others_have c row other asked.rows inside for
         (denies_apart other row grants_it so) in
         both_ways (decides_by asked.rules m.client m.user m.name (row ∷ (other ∷ [])) [])
-        (All-contains (λ r. permits r ≡ true → FindsNone asked c (row ∷ (r ∷ [])) [])
+        (All-contains (λ r. permits r ≡ true → FindsNone topics.All asked c (row ∷ (r ∷ [])) [])
         (others_of c row asked.rows) other (each class.place class.item class.in_range) kept
         (ap not grants_it) m.client m.name m.user
         (record {
@@ -152,13 +157,14 @@ denies_none rows asked row classes is so are each = record {
             are_asked = fits.2;
           };
           valid = m.valid;
+          taken = refl;
         }))
         (meets asked.rules m.client m.user m.name row other m.first m.second)
 
 -- one does
 pub meets_grant : (asked : AskedRows) (c : Clients) (row other : AclRow)
     → is_deny other.access ≡ false → Contains asked.rows other
-    → Finds asked c (row ∷ (other ∷ [])) [] → MeetsGrant asked.rules asked.rows row
+    → Finds topics.All asked c (row ∷ (other ∷ [])) [] → MeetsGrant asked.rules asked.rows row
 meets_grant asked c row other grants_it inside f =
     let says = both asked.rules f.client f.user f.name row other [] f.shown.decided in
     record {

@@ -11,6 +11,7 @@ use Rattle.mq_acl.specs.declared.row.Row.{Row}
 use Rattle.mq_witness.specs.Asked.{AskedRows}
 use Rattle.mq_witness.specs.Rows.{lent_rows}
 use Rattle.mq_witness.specs.declared.clients.Clients.{Clients}
+use Rattle.mq_witness.specs.declared.topics.Topics.{Topics}
 use Rattle.mq_lint.specs.Cases.{FindsNone, NoneMeets, others_of}
 
 -- ---- the first of a list
@@ -25,31 +26,31 @@ pub all_done : {X : Type 0} (P : X → Type 0) (xs : List X) (n : ℕ) → lengt
 all_done P xs n end h = subst (All P) (take_all n xs end) h
 
 -- ---- rows that are lent
-abbrev pub NoneMet : AskedRows → Clients → AclRow → (AclRow → Bool) → (cover : List AclRow)
+abbrev pub NoneMet : Topics → AskedRows → Clients → AclRow → (AclRow → Bool) → (cover : List AclRow)
     → Bor Row → Type 0
-NoneMet asked c row test cover other = test (row_view other.now) ≡ true
-    → FindsNone asked c (row ∷ (row_view other.now ∷ [])) cover
+NoneMet topics asked c row test cover other = test (row_view other.now) ≡ true
+    → FindsNone topics asked c (row ∷ (row_view other.now ∷ [])) cover
 
-pub passed_met : (asked : AskedRows) (c : Clients) (row : AclRow) (test : AclRow → Bool)
+pub passed_met : (topics : Topics) (asked : AskedRows) (c : Clients) (row : AclRow) (test : AclRow → Bool)
     (cover : List AclRow) (other : Bor Row) → test (row_view other.now) ≡ false
-    → NoneMet asked c row test cover other
-passed_met asked c row test cover other fails e =
+    → NoneMet topics asked c row test cover other
+passed_met topics asked c row test cover other fails e =
     absurd (both_ways (test (row_view other.now)) fails e)
 
-pub none_met : (asked : AskedRows) (c : Clients) (row : AclRow) (test : AclRow → Bool)
+pub none_met : (topics : Topics) (asked : AskedRows) (c : Clients) (row : AclRow) (test : AclRow → Bool)
     (cover : List AclRow) (others : List (Bor Row)) (n : ℕ) → length others ≤ n
-    → All (NoneMet asked c row test cover) (take n others)
-    → NoneMeets asked c row test cover (lent_rows others)
-none_met asked c row test cover others n end h =
-    All-map (λ r. test r ≡ true → FindsNone asked c (row ∷ (r ∷ [])) cover)
+    → All (NoneMet topics asked c row test cover) (take n others)
+    → NoneMeets topics asked c row test cover (lent_rows others)
+none_met topics asked c row test cover others n end h =
+    All-map (λ r. test r ≡ true → FindsNone topics asked c (row ∷ (r ∷ [])) cover)
     (λ (other : Bor Row). row_view other.now) others
-    (all_done (NoneMet asked c row test cover) others n end h)
+    (all_done (NoneMet topics asked c row test cover) others n end h)
 
-pub met_others : (asked : AskedRows) (c : Clients) (row : AclRow) (test : AclRow → Bool)
+pub met_others : (topics : Topics) (asked : AskedRows) (c : Clients) (row : AclRow) (test : AclRow → Bool)
     (cover rows : List AclRow) (others items : List (Bor Row))
     → lent_rows others ≡ others_of c row rows → items ≡ others
-    → NoneMeets asked c row test cover (lent_rows items)
-    → NoneMeets asked c row test cover (others_of c row rows)
-met_others asked c row test cover rows others items are same h =
-    subst (NoneMeets asked c row test cover)
+    → NoneMeets topics asked c row test cover (lent_rows items)
+    → NoneMeets topics asked c row test cover (others_of c row rows)
+met_others topics asked c row test cover rows others items are same h =
+    subst (NoneMeets topics asked c row test cover)
     (ap (λ (l : List (Bor Row)). lent_rows l) same ∙ are) h

@@ -1,13 +1,13 @@
 -- Rows that make another needless.
 use Rattle.std.proofs.Common.{◌≡◌, ◌==◌, ap, ◌<◌, ◌+◌, ℕ, Bool, true, false, not, ◌&&◌, ◌||◌, List, []}
-use Rattle.std.proofs.Common.{Option, Some, None, All, Contains, length, get_or, ltb, refl, sym}
-use Rattle.std.proofs.Common.{◌∙◌, subst, arith, ⊎_elim, cond, ◌∷◌}
-use Rattle.std.specs.Prelude.{IfSome}
+use Rattle.std.proofs.Common.{Option, All, Contains, length, get_or, ltb, refl, sym}
+use Rattle.std.proofs.Common.{◌∙◌, subst, arith, cond, ◌∷◌}
 use Rattle.std.specs.List.{list_any}
-use Rattle.std.proofs.lemmas.Bool.{and_cases, and_left, and_parts, both_ways, ltb-true, ltb-false}
-use Rattle.std.proofs.lemmas.Bool.{not-true}
+use Rattle.std.proofs.lemmas.Bool.{and_left, and_parts, both_ways, ltb-true, ltb-false}
+use Rattle.std.proofs.lemmas.Bool.{not-true, or_parts}
 use Rattle.std.proofs.lemmas.List.Elements.{All-contains}
-use Rattle.mq_acl.specs.AccessLists.{allow_by, concerns_by}
+use Rattle.mq_acl.specs.AccessLists.{concerns_by, grant_by}
+use Rattle.mq_acl.specs.Refused.{begins_shared, is_kept, is_refused, refuses}
 use Rattle.mq_acl.specs.declared.rules.Rules.{Rules}
 use Rattle.mq_acl.specs.declared.rules.Rules.TheVariants.{Own, Mosquitto}
 use Rattle.mq_acl.specs.Access.{grants, is_deny}
@@ -21,18 +21,22 @@ use Rattle.mq_acl.specs.declared.access.Direction.TheVariants.{Reading, Writing}
 use Rattle.mq_witness.specs.Asked.{AskedRows}
 use Rattle.mq_witness.specs.Ruled.{decides_by}
 use Rattle.mq_witness.specs.declared.clients.Clients.{Clients}
+use Rattle.mq_witness.specs.declared.topics.Topics.{Topics}
+use Rattle.mq_witness.specs.declared.topics.Topics.TheVariants.{Open}
 use Rattle.mq_differences.specs.ByOwner.{is_for}
 use Rattle.mq_differences.specs.Classes.{can_be_user}
 use Rattle.mq_differences.specs.Ranks.{is_judge, rank, rank_of}
+use Rattle.mq_differences.proofs.DeciderLemmas.{open_allows}
 use Rattle.mq_differences.proofs.PointLemmas.{client_user}
-use Rattle.mq_lint.specs.Needless.{MakesNeedless, MakesNone, as_grant, granted_access}
+use Rattle.mq_lint.specs.Needless.{AllowsNothing, MakesNeedless, MakesNone, as_grant}
+use Rattle.mq_lint.specs.Needless.{granted_access}
 use Rattle.mq_lint.specs.Needless.{is_among, may_make}
-use Rattle.mq_lint.specs.Cases.{AreClasses, Finds, FindsNone, covers_access, grants_as_much}
-use Rattle.mq_lint.specs.Cases.{MissesRow, is_at, maker_cover, may_be_for}
+use Rattle.mq_lint.specs.Cases.{AddsIn, AddsNone, AddsNoneIn, AreClasses, Finds, FindsNone, MissesRow}
+use Rattle.mq_lint.specs.Cases.{granted_in, is_at, maker_cover, would_grant}
 use Rattle.mq_lint.proofs.CaseLemmas.{point_asked}
 use Rattle.mq_lint.proofs.KindLemmas.{same_item}
 use Rattle.mq_lint.proofs.ListLemmas.{asked_parts, class_of}
-use Rattle.mq_lint.proofs.PointLemmas.{allows, decided, for_clients, grants_some}
+use Rattle.mq_lint.proofs.PointLemmas.{allows, decided, for_clients, same_allowed, unless_refused}
 
 -- ---- what rows that grant allow
 never_denies : (access : Access) → is_deny (granted_access access) ≡ false
@@ -149,7 +153,7 @@ module _ (rules : Rules) (client : List ℕ) (user : Option (List ℕ)) (name : 
       (same_concern rules client user name row))
 
   alone_allows : (other : AclRow) → can_be_user user ≡ true
-      → allow_by rules (as_grant other ∷ []) client user name direction
+      → grant_by rules (as_grant other ∷ []) client user name direction
       ≡ (here other && grants direction (granted_access other.access))
   alone_allows other fits =
       let g = as_grant other in
@@ -160,7 +164,7 @@ module _ (rules : Rules) (client : List ℕ) (user : Option (List ℕ)) (name : 
       ∙ grant_13 other)))
 
   both_allow : (row other : AclRow) → can_be_user user ≡ true
-      → allow_by rules (as_grant row ∷ (as_grant other ∷ [])) client user name direction
+      → grant_by rules (as_grant row ∷ (as_grant other ∷ [])) client user name direction
       ≡ ((here row && grants direction (granted_access row.access))
       || (here other && grants direction (granted_access other.access)))
   both_allow row other fits =
@@ -173,39 +177,12 @@ module _ (rules : Rules) (client : List ℕ) (user : Option (List ℕ)) (name : 
       ∙ (paired (at 1 r) (at 1 g) (at 3 r) (at 3 g)
       ∙ (λ i. grant_13 row i || grant_13 other i))))
 
--- ---- which directions they grant
-implied : (a b : Bool) → (not a || b) ≡ true → a ≡ true → b ≡ true
-implied true b e f = e
-implied false b e f = absurd (let q : false ≡ true = f in cc)
-
-not_implied : (a b : Bool) → (not a || b) ≡ false → (a ≡ true) × (b ≡ false)
-not_implied true b e = (refl, e)
-not_implied false b e = absurd (let q : true ≡ false = e in cc)
-
-covered_in : (row other : Access) → covers_access row other ≡ true → (direction : Direction)
-    → grants_as_much row other direction ≡ true
-covered_in row other e Reading =
-    (and_parts (grants_as_much row other Reading) (grants_as_much row other Writing) e).0
-covered_in row other e Writing =
-    (and_parts (grants_as_much row other Reading) (grants_as_much row other Writing) e).1
-
--- a direction that the row grants, and the other doesn't
-record GrantsMore (row other : Access) : Type 0 where
-  direction : Direction
-  grants_it : grants direction (granted_access row) ≡ true
-  lacks : grants direction (granted_access other) ≡ false
-
-more_in : (row other : Access) (direction : Direction)
-    → grants_as_much row other direction ≡ false → GrantsMore row other
-more_in row other direction e =
-    let parts = not_implied (grants direction (granted_access row))
-    (grants direction (granted_access other)) e in
-    record { direction = direction; grants_it = parts.0; lacks = parts.1 }
-
-more : (row other : Access) → covers_access row other ≡ false → GrantsMore row other
-more row other e =
-    ⊎_elim (more_in row other Reading) (more_in row other Writing)
-    (and_cases (grants_as_much row other Reading) (grants_as_much row other Writing) e)
+-- ---- the direction that a row is taken to grant
+grants_there : (access : Access) → would_grant (granted_in access) access ≡ true
+grants_there Read = refl
+grants_there Write = refl
+grants_there ReadWrite = refl
+grants_there Deny = refl
 
 -- ---- the other makes it needless
 adds_none : (p a q : Bool) → (p ≡ true → a ≡ true → q ≡ true) → ((p && a) || q) ≡ q
@@ -221,50 +198,45 @@ concerned true c p e g f = refl
 concerned false c true e g f = absurd (let q : true ≡ false = f in cc)
 concerned false c false e g f = absurd (let q : false ≡ true = e in cc)
 
-covers_it : (rules : Rules) (row other : AclRow) (client : List ℕ) (user : Option (List ℕ)) (name : List ℕ)
-    (b : Bool) → covers_access row.access other.access ≡ b
-    → concerns_by rules client user name row ≡ true
+covers_it : (rules : Rules) (row other : AclRow) (client : List ℕ) (user : Option (List ℕ))
+    (name : List ℕ) (b : Bool) → concerns_by rules client user name row ≡ true
     → decides_by rules client user name (row ∷ []) (cond b (other ∷ []) []) ≡ false
     → (b ≡ true) × (concerns_by rules client user name other ≡ true)
-covers_it rules row other client user name true e here f = (
+covers_it rules row other client user name true here f = (
   refl,
   concerned (concerns_by rules client user name other) true (concerns_by rules client user name row)
-      here
-      refl f,
+      here refl f,
 )
-covers_it rules row other client user name false e here f =
+covers_it rules row other client user name false here f =
     absurd (both_ways ((concerns_by rules client user name row && true) && true) f (rw here refl))
 
-granted_at : (rules : Rules) (row other : AclRow) (client : List ℕ) (user : Option (List ℕ)) (name : List ℕ)
-    (direction : Direction) → concerns_by rules client user name row ≡ true
-    → decides_by rules client user name (row ∷ []) (maker_cover row other) ≡ false
-    → grants direction (granted_access row.access) ≡ true
-    → (concerns_by rules client user name other && grants direction (granted_access other.access))
-    ≡ true
-granted_at rules row other client user name direction here f so =
-    let both = covers_it rules row other client user name
-    (covers_access row.access other.access) refl
-    here f in
-    let more = implied (grants direction (granted_access row.access))
-    (grants direction (granted_access other.access))
-    (covered_in row.access other.access both.0 direction) so in
-    rw (both.1, more) refl
+granted_at : (rules : Rules) (row other : AclRow) (client : List ℕ) (user : Option (List ℕ))
+    (name : List ℕ) (direction : Direction) → concerns_by rules client user name row ≡ true
+    → decides_by rules client user name (row ∷ []) (maker_cover direction other) ≡ false
+    → (concerns_by rules client user name other && would_grant direction other.access) ≡ true
+granted_at rules row other client user name direction here f =
+    let both = covers_it rules row other client user name (would_grant direction other.access) here f
+    in
+    rw (both.1, both.0) refl
 
 pub makes_needless : (asked : AskedRows) (row other : AclRow) (classes : List Clients)
     → AreClasses asked row.who classes → may_make asked.rules other row ≡ true
-    → All (λ c. FindsNone asked c (row ∷ []) (maker_cover row other)) classes
-    → MakesNeedless asked.rules asked.rows other row
+    → All (AddsNone asked row other) classes → MakesNeedless asked.rules asked.rows other row
 makes_needless asked row other classes are kind each = record {
   kind = kind;
   same = λ client name user direction a v.
       let fits = asked_parts asked.rules asked.rows client user a in
       let here : AclRow → Bool = concerns_by asked.rules client user name in
-      both_allow asked.rules client user name direction row other fits.1
-      ∙ adds_none (here row) (grants direction (granted_access row.access))
-      (here other && grants direction (granted_access other.access))
+      unless_refused asked.rules client user name direction
+      (as_grant row ∷ (as_grant other ∷ [])) (as_grant other ∷ [])
+      (λ taken. same_allowed asked.rules client user name direction
+      (as_grant row ∷ (as_grant other ∷ [])) (as_grant other ∷ [])
+      (both_allow asked.rules client user name direction row other fits.1
+      ∙ adds_none (here row) (would_grant direction row.access)
+      (here other && would_grant direction other.access)
       (λ e so. let class = class_of asked row classes client user name are fits.1 e in
       granted_at asked.rules row other client user name direction e
-      (each class.place class.item class.in_range client name user
+      (each class.place class.item class.in_range direction so client name user
       (record {
         is_asked = record {
           client_fits = fits.0;
@@ -272,73 +244,87 @@ makes_needless asked row other classes are kind each = record {
           are_asked = fits.2;
         };
         valid = v;
-      })) so)
-      ∙ sym (alone_allows asked.rules client user name direction other fits.1);
+        taken = taken;
+      })))
+      ∙ sym (alone_allows asked.rules client user name direction other fits.1)));
 }
+
+pub adds_neither : (asked : AskedRows) (c : Clients) (row other : AclRow)
+    → AddsNoneIn asked c row other Reading → AddsNoneIn asked c row other Writing
+    → AddsNone asked row other c
+adds_neither asked c row other r w Reading = r
+adds_neither asked c row other r w Writing = w
 
 -- ---- it doesn't
 -- a client to whom the row grants what the other doesn't
 gained : (asked : AskedRows) (c : Clients) (row other : AclRow) (cover : List AclRow)
-    (f : Finds asked c (row ∷ []) cover) (direction : Direction)
+    (direction : Direction) (f : Finds (Open direction) asked c (row ∷ []) cover)
     → concerns_by asked.rules f.client f.user f.name row ≡ true
-    → grants direction (granted_access row.access) ≡ true
-    → (concerns_by asked.rules f.client f.user f.name other && grants direction (granted_access other.access))
+    → would_grant direction row.access ≡ true
+    → (concerns_by asked.rules f.client f.user f.name other && would_grant direction other.access)
     ≡ false → MakesNeedless asked.rules asked.rows other row → ⊥
-gained asked c row other cover f direction here so permits m =
+gained asked c row other cover direction f here so permits m =
     both_ways
-    (concerns_by asked.rules f.client f.user f.name other && grants direction (granted_access other.access))
+    (concerns_by asked.rules f.client f.user f.name other && would_grant direction other.access)
     permits
     (sym (alone_allows asked.rules f.client f.user f.name direction other fits)
+    ∙ sym (open_allows asked.rules (as_grant other ∷ []) f.client f.user f.name direction
+    f.shown.taken)
     ∙ sym (m.same f.client f.name f.user direction
     (point_asked asked c f.client f.user f.shown.is_asked) f.shown.valid)
+    ∙ open_allows asked.rules (as_grant row ∷ (as_grant other ∷ [])) f.client f.user f.name direction
+    f.shown.taken
     ∙ both_allow asked.rules f.client f.user f.name direction row other fits
     ∙ rw (here, so) refl)
   where
     fits : can_be_user f.user ≡ true
     fits = client_user asked c f.user f.shown.is_asked.user_fits
 
-concerned_by : (asked : AskedRows) (c : Clients) (row : AclRow) (cover : List AclRow)
-    (f : Finds asked c (row ∷ []) cover)
+concerned_by : (topics : Topics) (asked : AskedRows) (c : Clients) (row : AclRow)
+    (cover : List AclRow) (f : Finds topics asked c (row ∷ []) cover)
     → (concerns_by asked.rules f.client f.user f.name row ≡ true)
     × (list_any (concerns_by asked.rules f.client f.user f.name) cover ≡ false)
-concerned_by asked c row cover f =
+concerned_by topics asked c row cover f =
     let p = concerns_by asked.rules f.client f.user f.name row in
     let any = list_any (concerns_by asked.rules f.client f.user f.name) cover in
     let parts = and_parts (p && true) (not any) f.shown.decided in
     ((and_parts p true parts.0).0, not-true any parts.1)
 
-none_left : (a b : Bool) → (a || false) ≡ false → (a && b) ≡ false
-none_left true b e = absurd (let q : true ≡ false = e in cc)
-none_left false b e = refl
+-- where one row that isn't to concern it doesn't, or doesn't grant the direction, it isn't granted
+not_granted : (p : AclRow → Bool) (other : AclRow) (b : Bool)
+    → list_any p (cond b (other ∷ []) []) ≡ false → (p other && b) ≡ false
+not_granted p other true e = at (p other) e
+  where
+    at : (a : Bool) → (a || false) ≡ false → (a && true) ≡ false
+    at true k = absurd (let q : true ≡ false = k in cc)
+    at false k = refl
+not_granted p other false e = at (p other)
+  where
+    at : (a : Bool) → (a && false) ≡ false
+    at true = refl
+    at false = refl
 
-none_right : (a b : Bool) → b ≡ false → (a && b) ≡ false
-none_right true b e = e
-none_right false b e = refl
-
-pub makes_nothing : (asked : AskedRows) (c : Clients) (row other : AclRow) (b : Bool)
-    → covers_access row.access other.access ≡ b
-    → Finds asked c (row ∷ []) (cond b (other ∷ []) []) → MakesNeedless asked.rules asked.rows other row → ⊥
-makes_nothing asked c row other true e f =
-    let some = grants_some (granted_access row.access) (never_denies row.access) in
-    let says = concerned_by asked c row (other ∷ []) f in
-    gained asked c row other (other ∷ []) f some.0 says.0 some.1
-    (none_left (concerns_by asked.rules f.client f.user f.name other)
-    (grants some.0 (granted_access other.access)) says.1)
-makes_nothing asked c row other false e f =
-    let some = more row.access other.access e in
-    gained asked c row other [] f some.direction (concerned_by asked c row [] f).0 some.grants_it
-    (none_right (concerns_by asked.rules f.client f.user f.name other)
-    (grants some.direction (granted_access other.access)) some.lacks)
+pub makes_nothing : (asked : AskedRows) (c : Clients) (row other : AclRow) (direction : Direction)
+    → AddsIn asked c row other direction → MakesNeedless asked.rules asked.rows other row → ⊥
+makes_nothing asked c row other direction w =
+    let f = w.finds in
+    let says = concerned_by (Open direction) asked c row (maker_cover direction other) f in
+    gained asked c row other (maker_cover direction other) direction f says.0 w.grants_it
+    (not_granted (concerns_by asked.rules f.client f.user f.name) other
+    (would_grant direction other.access) says.1)
 
 -- nor does a row that isn't for clients whom the row concerns
+abbrev pub IsConcerned : AskedRows → AclRow → Clients → Type 0
+IsConcerned asked row c = Finds (Open (granted_in row.access)) asked c (row ∷ []) []
+
 pub others_make_nothing : (asked : AskedRows) (c : Clients) (row other : AclRow)
-    → Contains asked.rows other → is_for c other.who ≡ false → Finds asked c (row ∷ []) []
+    → Contains asked.rows other → is_for c other.who ≡ false → IsConcerned asked row c
     → MakesNeedless asked.rules asked.rows other row → ⊥
 others_make_nothing asked c row other inside elsewhere f =
-    let some = grants_some (granted_access row.access) (never_denies row.access) in
+    let direction = granted_in row.access in
     let p = concerns_by asked.rules f.client f.user f.name other in
-    gained asked c row other [] f some.0 (concerned_by asked c row [] f).0 some.1
-    (and_left p (grants some.0 (granted_access other.access)) (at p refl))
+    gained asked c row other [] direction f (concerned_by (Open direction) asked c row [] f).0
+    (grants_there row.access) (and_left p (would_grant direction other.access) (at p refl))
   where
     at : (b : Bool) → concerns_by asked.rules f.client f.user f.name other ≡ b → b ≡ false
     at true e = absurd (both_ways (is_for c other.who) elsewhere
@@ -347,35 +333,91 @@ others_make_nothing asked c row other inside elsewhere f =
         asked.rows other (for_clients asked c f.client f.name f.user f.shown.is_asked.user_fits) inside e))
     at false e = refl
 
-pub skipped : (asked : AskedRows) (clients : Option Clients) (row other : AclRow)
-    → Contains asked.rows other → IfSome clients (λ c. Finds asked c (row ∷ []) [])
-    → may_be_for clients other.who ≡ false → MakesNeedless asked.rules asked.rows other row → ⊥
-skipped asked None row other inside f e = absurd (let q : true ≡ false = e in cc)
-skipped asked (Some c) row other inside f e = others_make_nothing asked c row other inside e f
-
 -- nor does one that concerns nothing that the row does
-misses_own : (rules : Rules) (clients : Clients) (row other : AclRow) → MissesRow rules (Some clients) row other
+misses_own : (rules : Rules) (row other : AclRow) → MissesRow rules row other
     → (client name : List ℕ) (user : Option (List ℕ))
     → concerns_by rules client user name row ≡ true
     → concerns_by rules client user name other ≡ false
-misses_own Own clients row other apart client name user e = apart client name user e
-misses_own Mosquitto clients row other apart client name user e = absurd apart
+misses_own Own row other apart client name user e = apart client name user e
+misses_own Mosquitto row other apart client name user e = absurd apart
 
-misses_none : (rules : Rules) (row other : AclRow) → MissesRow rules None row other → ⊥
-misses_none Own row other apart = apart
-misses_none Mosquitto row other apart = apart
-
-pub misses : (asked : AskedRows) (clients : Option Clients) (row other : AclRow)
-    → IfSome clients (λ c. Finds asked c (row ∷ []) []) → MissesRow asked.rules clients row other
-    → MakesNeedless asked.rules asked.rows other row → ⊥
-misses asked None row other f apart = absurd (misses_none asked.rules row other apart)
-misses asked (Some c) row other f apart =
-    let some = grants_some (granted_access row.access) (never_denies row.access) in
-    let here = (concerned_by asked c row [] f).0 in
-    gained asked c row other [] f some.0 here some.1
+pub misses : (asked : AskedRows) (c : Clients) (row other : AclRow) → IsConcerned asked row c
+    → MissesRow asked.rules row other → MakesNeedless asked.rules asked.rows other row → ⊥
+misses asked c row other f apart =
+    let direction = granted_in row.access in
+    let here = (concerned_by (Open direction) asked c row [] f).0 in
+    gained asked c row other [] direction f here (grants_there row.access)
     (and_left (concerns_by asked.rules f.client f.user f.name other)
-    (grants some.0 (granted_access other.access))
-    (misses_own asked.rules c row other apart f.client f.name f.user here))
+    (would_grant direction other.access)
+    (misses_own asked.rules row other apart f.client f.name f.user here))
+
+-- ---- what the row allows by itself
+-- where it concerns a topic that the broker takes, something
+pub allows_some : (asked : AskedRows) (c : Clients) (row : AclRow) → IsConcerned asked row c
+    → AllowsNothing asked.rules asked.rows row → ⊥
+allows_some asked c row f none =
+    let direction = granted_in row.access in
+    let fits = client_user asked c f.user f.shown.is_asked.user_fits in
+    let here = (concerned_by (Open direction) asked c row [] f).0 in
+    both_ways (grant_by asked.rules [] f.client f.user f.name direction)
+    (allows asked.rules f.client f.user f.name direction [] fits)
+    (sym (open_allows asked.rules [] f.client f.user f.name direction f.shown.taken)
+    ∙ sym (none f.client f.name f.user direction
+    (point_asked asked c f.client f.user f.shown.is_asked) f.shown.valid)
+    ∙ open_allows asked.rules (as_grant row ∷ []) f.client f.user f.name direction f.shown.taken
+    ∙ alone_allows asked.rules f.client f.user f.name direction row fits
+    ∙ rw (here, grants_there row.access) refl)
+
+-- what clients may write by the broker they may read
+open_to_read : (rules : Rules) (name : List ℕ) → refuses rules Writing name ≡ false
+    → refuses rules Reading name ≡ false
+unfolding is_refused
+open_to_read Own name e = refl
+open_to_read Mosquitto name e = (or_parts (begins_shared name) (is_kept name) e).0
+
+open_there : (rules : Rules) (access : Access) (direction : Direction) (name : List ℕ)
+    → would_grant direction access ≡ true → refuses rules direction name ≡ false
+    → refuses rules (granted_in access) name ≡ false
+open_there rules Read Reading name so e = e
+open_there rules Read Writing name so e = absurd (let q : false ≡ true = so in cc)
+open_there rules Write Reading name so e = absurd (let q : false ≡ true = so in cc)
+open_there rules Write Writing name so e = e
+open_there rules ReadWrite Reading name so e = e
+open_there rules ReadWrite Writing name so e = open_to_read rules name e
+open_there rules Deny Reading name so e = e
+open_there rules Deny Writing name so e = open_to_read rules name e
+
+neither_way : (h g : Bool) → (h ≡ true → g ≡ true → ⊥) → (h && g) ≡ false
+neither_way true true f = absurd (f refl refl)
+neither_way true false f = refl
+neither_way false g f = refl
+
+-- where it concerns none, nothing
+pub allows_nothing : (asked : AskedRows) (row : AclRow) (classes : List Clients)
+    → AreClasses asked row.who classes
+    → All (λ c. FindsNone (Open (granted_in row.access)) asked c (row ∷ []) []) classes
+    → AllowsNothing asked.rules asked.rows row
+allows_nothing asked row classes are each client name user direction a v =
+    let fits = asked_parts asked.rules asked.rows client user a in
+    let here : AclRow → Bool = concerns_by asked.rules client user name in
+    unless_refused asked.rules client user name direction (as_grant row ∷ []) []
+    (λ taken. same_allowed asked.rules client user name direction (as_grant row ∷ []) []
+    (alone_allows asked.rules client user name direction row fits.1
+    ∙ neither_way (here row) (would_grant direction row.access)
+    (λ e so. let class = class_of asked row classes client user name are fits.1 e in
+    both_ways ((here row && true) && true)
+    (each class.place class.item class.in_range client name user
+    (record {
+      is_asked = record {
+        client_fits = fits.0;
+        user_fits = class.here class.item;
+        are_asked = fits.2;
+      };
+      valid = v;
+      taken = open_there asked.rules row.access direction name so taken;
+    }))
+    (rw e refl))
+    ∙ sym (allows asked.rules client user name direction [] fits.1)))
 
 -- ---- row by row
 pub makes_none_more : (rules : Rules) (rows : List Row) (called : List AclRow) (row : AclRow) (n : ℕ)

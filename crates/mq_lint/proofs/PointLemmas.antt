@@ -1,20 +1,19 @@
 -- What a list, and the list without a row, allow a client.
 use Rattle.std.proofs.Common.{◌≡◌, ◌≢◌, ℕ, ◌==◌, Bool, true, false, not, ◌&&◌, ◌||◌, List, []}
-use Rattle.std.proofs.Common.{◌∷◌, Option, All, get_or, refl, sym, ap, ◌∙◌}
+use Rattle.std.proofs.Common.{◌∷◌, Option, All, get_or, refl, sym, ap, ◌∙◌, inl, inr}
 use Rattle.std.proofs.Common.{if◌then◌else◌}
 use Rattle.std.specs.Prelude.{nat_lt}
 use Rattle.std.specs.List.{filter, list_any}
-use Rattle.std.proofs.lemmas.Bool.{and_parts}
+use Rattle.std.proofs.lemmas.Bool.{and_parts, cases_Bool}
 use Rattle.std.proofs.lemmas.List.Elements.{All-head, All-tail}
 use Rattle.std.proofs.lemmas.List.Folds.{list_any-append}
 use Rattle.std.proofs.Math.Bool.{and-false}
-use Rattle.mq_acl.specs.AccessLists.{allow_by, concerns_by}
-use Rattle.mq_acl.specs.Access.{grants, is_deny}
-use Rattle.mq_acl.specs.Lines.{Access, Read, Write, ReadWrite, Deny}
+use Rattle.mq_acl.specs.AccessLists.{allow_by, concerns_by, grant_by}
+use Rattle.mq_acl.specs.Access.{is_deny}
+use Rattle.mq_acl.specs.Refused.{refuses}
 use Rattle.mq_acl.specs.Rows.{AclRow}
 use Rattle.mq_acl.specs.RowsByOwner.{is_everyones}
 use Rattle.mq_acl.specs.declared.access.Direction.{Direction}
-use Rattle.mq_acl.specs.declared.access.Direction.TheVariants.{Reading, Writing}
 use Rattle.mq_acl.specs.declared.rules.Rules.{Rules}
 use Rattle.mq_acl.specs.declared.rules.Rules.TheVariants.{Own, Mosquitto}
 use Rattle.mq_witness.specs.Asked.{AskedRows, is_client_of}
@@ -23,7 +22,7 @@ use Rattle.mq_witness.specs.declared.clients.Clients.{Clients}
 use Rattle.mq_differences.specs.ByOwner.{is_for, is_own}
 use Rattle.mq_differences.specs.Classes.{can_be_user}
 use Rattle.mq_differences.specs.Ranks.{is_judge, rank, rank_of}
-use Rattle.mq_differences.proofs.DeciderLemmas.{allowed_at, any_same, some_at}
+use Rattle.mq_differences.proofs.DeciderLemmas.{any_same, granted_at, open_allows, some_at}
 use Rattle.mq_differences.proofs.FirstLemmas.{none_at}
 use Rattle.mq_differences.proofs.PointLemmas.{applies_for, concerned_applies, user_as_it_is}
 use Rattle.mq_lint.specs.Needless.{same_row, without}
@@ -317,7 +316,7 @@ other_3 false false true d f = absurd (let q : true ≡ false = f in cc)
 other_3 false false false true f = absurd (let q : true ≡ false = f in cc)
 other_3 false false false false f = λ q. let x : true ≡ false = q in cc
 
--- ---- what lists allow
+-- ---- what rows grant
 module _ (rules : Rules) (client : List ℕ) (user : Option (List ℕ)) (name : List ℕ)
     (direction : Direction) where
   abbrev here : AclRow → Bool
@@ -327,10 +326,10 @@ module _ (rules : Rules) (client : List ℕ) (user : Option (List ℕ)) (name : 
   at place rows = some_at rules direction here place rows
 
   pub allows : (rows : List AclRow) → can_be_user user ≡ true
-      → allow_by rules rows client user name direction
+      → grant_by rules rows client user name direction
       ≡ decided (at 0 rows) (at 1 rows) (at 2 rows) (at 3 rows)
   allows rows fits =
-      allowed_at rules rows client user name direction
+      granted_at rules rows client user name direction
       ∙ ap (λ (u : Option (List ℕ)).
       decided (some_at rules direction (concerns_by rules client u name) 0 rows)
       (some_at rules direction (concerns_by rules client u name) 1 rows)
@@ -339,7 +338,7 @@ module _ (rules : Rules) (client : List ℕ) (user : Option (List ℕ)) (name : 
       (user_as_it_is rules user fits)
 
   allows_with : (row : AclRow) (rows : List AclRow) → can_be_user user ≡ true
-      → has_row row rows ≡ true → allow_by rules rows client user name direction
+      → has_row row rows ≡ true → grant_by rules rows client user name direction
       ≡ with_one (is_judge direction row) (rank rules row) (here row) (at 0 (without row rows))
       (at 1 (without row rows)) (at 2 (without row rows)) (at 3 (without row rows))
   allows_with row rows fits h =
@@ -353,8 +352,8 @@ module _ (rules : Rules) (client : List ℕ) (user : Option (List ℕ)) (name : 
   -- a row that doesn't concern it, or may not decide, changes nothing
   pub unconcerned : (row : AclRow) (rows : List AclRow) → can_be_user user ≡ true
       → has_row row rows ≡ true → here row ≡ false
-      → allow_by rules rows client user name direction
-      ≡ allow_by rules (without row rows) client user name direction
+      → grant_by rules rows client user name direction
+      ≡ grant_by rules (without row rows) client user name direction
   unconcerned row rows fits h e =
       let w = without row rows in
       allows_with row rows fits h
@@ -365,8 +364,8 @@ module _ (rules : Rules) (client : List ℕ) (user : Option (List ℕ)) (name : 
 
   pub undecided : (row : AclRow) (rows : List AclRow) → can_be_user user ≡ true
       → has_row row rows ≡ true → is_judge direction row ≡ false
-      → allow_by rules rows client user name direction
-      ≡ allow_by rules (without row rows) client user name direction
+      → grant_by rules rows client user name direction
+      ≡ grant_by rules (without row rows) client user name direction
   undecided row rows fits h e =
       let w = without row rows in
       allows_with row rows fits h
@@ -384,7 +383,7 @@ module _ (rules : Rules) (client : List ℕ) (user : Option (List ℕ)) (name : 
   with_seen : (row : AclRow) (rows : List AclRow) (place : ℕ) → can_be_user user ≡ true
       → has_row row rows ≡ true → is_judge direction row ≡ true → here row ≡ true
       → rank rules row ≡ place
-      → allow_by rules rows client user name direction ≡ seen_as place (without row rows)
+      → grant_by rules rows client user name direction ≡ seen_as place (without row rows)
   with_seen row rows place fits h j e v =
       let w = without row rows in
       allows_with row rows fits h
@@ -394,8 +393,8 @@ module _ (rules : Rules) (client : List ℕ) (user : Option (List ℕ)) (name : 
       → has_row row rows ≡ true → is_judge direction row ≡ true → here row ≡ true
       → rank rules row ≡ place
       → seen_as place (without row rows) ≡ seen_without (without row rows)
-      → allow_by rules rows client user name direction
-      ≡ allow_by rules (without row rows) client user name direction
+      → grant_by rules rows client user name direction
+      ≡ grant_by rules (without row rows) client user name direction
   seen_same row rows place fits h j e v same =
       with_seen row rows place fits h j e v ∙ same ∙ sym (allows (without row rows) fits)
 
@@ -403,15 +402,38 @@ module _ (rules : Rules) (client : List ℕ) (user : Option (List ℕ)) (name : 
       → has_row row rows ≡ true → is_judge direction row ≡ true → here row ≡ true
       → rank rules row ≡ place
       → seen_as place (without row rows) ≢ seen_without (without row rows)
-      → allow_by rules rows client user name direction
-      ≢ allow_by rules (without row rows) client user name direction
+      → grant_by rules rows client user name direction
+      ≢ grant_by rules (without row rows) client user name direction
   seen_other row rows place fits h j e v other same =
       other (sym (with_seen row rows place fits h j e v) ∙ same ∙ allows (without row rows) fits)
 
--- a row that doesn't deny grants a direction
-pub grants_some : (access : Access) → is_deny access ≡ false
-    → (direction : Direction) × (grants direction access ≡ true)
-grants_some Read e = (Reading, refl)
-grants_some Write e = (Writing, refl)
-grants_some ReadWrite e = (Reading, refl)
-grants_some Deny e = absurd (let q : true ≡ false = e in cc)
+-- ---- what lists allow
+module _ (rules : Rules) (client : List ℕ) (user : Option (List ℕ)) (name : List ℕ)
+    (direction : Direction) (one other : List AclRow) where
+  -- lists whose rows grant the same allow the same
+  pub same_allowed : grant_by rules one client user name direction
+      ≡ grant_by rules other client user name direction
+      → allow_by rules one client user name direction
+      ≡ allow_by rules other client user name direction
+  same_allowed e = ap (λ g. not (refuses rules direction name) && g) e
+
+  -- and those whose rows don't differ, but for what the broker refuses by itself
+  pub other_allowed : refuses rules direction name ≡ false
+      → grant_by rules one client user name direction
+      ≢ grant_by rules other client user name direction
+      → allow_by rules one client user name direction
+      ≢ allow_by rules other client user name direction
+  other_allowed taken n e = n (sym (open_allows rules one client user name direction taken)
+      ∙ e ∙ open_allows rules other client user name direction taken)
+
+  -- of that all lists allow the same
+  pub unless_refused : (refuses rules direction name ≡ false
+      → allow_by rules one client user name direction
+      ≡ allow_by rules other client user name direction)
+      → allow_by rules one client user name direction
+      ≡ allow_by rules other client user name direction
+  unless_refused f = elim (cases_Bool (refuses rules direction name)) [
+    | inl e ↦ ap (λ r. not r && grant_by rules one client user name direction) e
+        ∙ sym (ap (λ r. not r && grant_by rules other client user name direction) e)
+    | inr e ↦ f e
+  ]

@@ -1,13 +1,13 @@
 -- A row of a list, for clients of one class.
-use Rattle.std.specs.Prelude.{◌≡◌, ℕ, Bool, true, false, List, [], ◌∷◌, ◌++◌, ◌&&◌, ◌||◌, ◌==◌, not}
-use Rattle.std.specs.Prelude.{◌<◌, Option, Some, None, All, Contains, if◌then◌else◌, nat_lt}
+use Rattle.std.specs.Prelude.{◌≡◌, ℕ, Bool, true, false, List, [], ◌∷◌, ◌++◌, ◌&&◌, ◌==◌, not}
+use Rattle.std.specs.Prelude.{◌<◌, Option, All, Contains, if◌then◌else◌, nat_lt}
 use Rattle.std.specs.Prelude.{length, map, slice_index_or}
 use Rattle.std.specs.List.{filter, list_all, list_any}
 use Rattle.mq_acl.specs.AccessLists.{allow_by}
 use Rattle.mq_acl.specs.declared.rules.Rules.{Rules}
-use Rattle.mq_acl.specs.declared.rules.Rules.TheVariants.{Own}
+use Rattle.mq_acl.specs.declared.rules.Rules.TheVariants.{Own, Mosquitto}
 use Rattle.mq_acl.specs.Access.{applies, concerns, grants, is_deny}
-use Rattle.mq_acl.specs.Lines.{Access}
+use Rattle.mq_acl.specs.Lines.{Access, Write}
 use Rattle.mq_acl.specs.Rows.{AclRow, Everyone, Who}
 use Rattle.mq_acl.specs.RowsByOwner.{is_everyones}
 use Rattle.mq_acl.specs.Views.{row_view, row_views}
@@ -19,7 +19,9 @@ use Rattle.mq_witness.specs.Clients.{name_passes}
 use Rattle.mq_witness.specs.Rows.{is_user_of}
 use Rattle.mq_witness.specs.Ruled.{IsShownBy, decides_by}
 use Rattle.mq_witness.specs.declared.clients.Clients.{Clients}
-use Rattle.mq_differences.specs.ByOwner.{everyones, is_for, is_own, own_rows}
+use Rattle.mq_witness.specs.declared.topics.Topics.{Topics}
+use Rattle.mq_witness.specs.declared.topics.Topics.TheVariants.{Open}
+use Rattle.mq_differences.specs.ByOwner.{everyones, is_own, own_rows}
 use Rattle.mq_differences.specs.Classes.{can_be_user}
 use Rattle.mq_differences.specs.Marks.{views_of}
 use Rattle.mq_differences.specs.Questions.{IsPoint}
@@ -41,17 +43,18 @@ pub record CanAsk (rules : Rules) (asked : AskedRows) (clients : Clients) (row :
   pub listed : name_passes (λ u. is_user_of u asked.rows) clients ≡ true
   pub inside : has_row row asked.rows ≡ true
 
--- of a client that is asked about, each first row concerns a topic and no other does
-pub record Finds (asked : AskedRows) (clients : Clients) (must cover : List AclRow) : Type 0 where
+-- of a client that is asked about, each first row concerns one of these topics and no other does
+pub record Finds (topics : Topics) (asked : AskedRows) (clients : Clients)
+    (must cover : List AclRow) : Type 0 where
   pub client : List ℕ
   pub user : Option (List ℕ)
   pub name : List ℕ
-  pub shown : IsShownBy asked clients must cover client user name
+  pub shown : IsShownBy topics asked clients must cover client user name
 
--- of no client that is asked about does each first row concern a topic and no other
-abbrev pub FindsNone : AskedRows → Clients → (must cover : List AclRow) → Type 0
-FindsNone asked clients must cover = (client name : List ℕ) (user : Option (List ℕ))
-    → IsPoint asked clients client user name
+-- of no client that is asked about does each first row concern one of them and no other
+abbrev pub FindsNone : Topics → AskedRows → Clients → (must cover : List AclRow) → Type 0
+FindsNone topics asked clients must cover = (client name : List ℕ) (user : Option (List ℕ))
+    → IsPoint topics asked clients client user name
     → decides_by asked.rules client user name must cover ≡ false
 
 -- ---- the rows that are left
@@ -92,7 +95,7 @@ IsNeeded asked rows row = Differ asked.rules asked.rows rows (without row rows)
 -- these clients may do the same, in this direction
 abbrev pub IsNeedlessIn : AskedRows → List AclRow → Clients → AclRow → Direction → Type 0
 IsNeedlessIn asked rows clients row direction = (client name : List ℕ) (user : Option (List ℕ))
-    → IsPoint asked clients client user name
+    → IsPoint (Open direction) asked clients client user name
     → allow_by asked.rules rows client user name direction
     ≡ allow_by asked.rules (without row rows) client user name direction
 
@@ -101,16 +104,16 @@ abbrev pub IsNeedlessTo : AskedRows → List AclRow → Clients → AclRow → T
 IsNeedlessTo asked rows clients row =
     (direction : Direction) → IsNeedlessIn asked rows clients row direction
 
--- none of these that passes the test concerns a topic that the row does and no row of the cover, for
--- a client that is asked about
-abbrev pub NoneMeets : AskedRows → Clients → AclRow → (AclRow → Bool) → (cover others : List AclRow)
-    → Type 0
-NoneMeets asked clients row test cover others =
-    All (λ r. test r ≡ true → FindsNone asked clients (row ∷ (r ∷ [])) cover) others
+-- none of these that passes the test concerns one of these topics that the row does and no row of the
+-- cover, for a client that is asked about
+abbrev pub NoneMeets : Topics → AskedRows → Clients → AclRow → (AclRow → Bool)
+    → (cover others : List AclRow) → Type 0
+NoneMeets topics asked clients row test cover others =
+    All (λ r. test r ≡ true → FindsNone topics asked clients (row ∷ (r ∷ [])) cover) others
 
 -- where rows of this rank would decide, the row doesn't before they do
 abbrev pub NoneAt : AskedRows → List AclRow → Clients → AclRow → Direction → ℕ → Type 0
-NoneAt asked rows clients row direction place = NoneMeets asked clients row
+NoneAt asked rows clients row direction place = NoneMeets (Open direction) asked clients row
     (is_at asked.rules direction place)
     (before asked.rules direction place (others_of clients row rows))
     (others_of clients row rows)
@@ -121,20 +124,20 @@ pub record Precedes (asked : AskedRows) (rows : List AclRow) (clients : Clients)
   pub other : AclRow
   pub inside : Contains (others_of clients row rows) other
   pub is_of : is_at asked.rules direction place other ≡ true
-  pub finds : Finds asked clients (row ∷ (other ∷ []))
+  pub finds : Finds (Open direction) asked clients (row ∷ (other ∷ []))
       (before asked.rules direction place (others_of clients row rows))
 
 -- the row grants, and concerns a topic about which no other decides
 pub record GrantsAlone (asked : AskedRows) (rows : List AclRow) (clients : Clients) (row : AclRow)
     (direction : Direction) : Type 0 where
   pub grants_it : is_deny row.access ≡ false
-  pub finds : Finds asked clients (row ∷ [])
+  pub finds : Finds (Open direction) asked clients (row ∷ [])
       (before asked.rules direction 4 (others_of clients row rows))
 
 -- if it grants, another decides wherever it does
 abbrev pub GrantsNone : AskedRows → List AclRow → Clients → AclRow → Direction → Type 0
-GrantsNone asked rows clients row direction = is_deny row.access ≡ false → FindsNone asked clients
-    (row ∷ []) (before asked.rules direction 4 (others_of clients row rows))
+GrantsNone asked rows clients row direction = is_deny row.access ≡ false
+    → FindsNone (Open direction) asked clients (row ∷ []) (before asked.rules direction 4 (others_of clients row rows))
 
 -- it grants
 abbrev pub permits : AclRow → Bool
@@ -167,25 +170,36 @@ pub record IsLint (rules : Rules) (rows : List Row) (asked : AskedRows) (by_owne
   pub own_marked : (clients : Clients) → AreMarked rows (own_rows clients by_owner)
 
 -- ---- a row that makes another needless
--- taken for rows that grant, the other grants each direction that the row does
-abbrev pub grants_as_much : (row other : Access) → Direction → Bool
-grants_as_much row other direction =
-    not (grants direction (granted_access row)) || grants direction (granted_access other)
+-- taken for a row that grants, it grants this direction
+abbrev pub would_grant : Direction → Access → Bool
+would_grant direction access = grants direction (granted_access access)
 
-abbrev pub covers_access : (row other : Access) → Bool
-covers_access row other = grants_as_much row other Reading && grants_as_much row other Writing
+-- one that it does
+abbrev pub granted_in : Access → Direction
+granted_in Write = Writing
+granted_in access = Reading
 
--- the row that is to concern whatever the first does
-abbrev pub maker_cover : (row other : AclRow) → List AclRow
-maker_cover row other = if covers_access row.access other.access then other ∷ [] else []
+-- the row that is to concern whatever another grants in the direction
+abbrev pub maker_cover : Direction → AclRow → List AclRow
+maker_cover direction other = if would_grant direction other.access then other ∷ [] else []
 
--- a row of these clients may concern those, if any are given
-abbrev pub may_be_for : Option Clients → Who → Bool
-may_be_for None who = true
-may_be_for (Some clients) who = is_for clients who
+-- taken for rows that grant, the row grants these clients something in the direction that the other doesn't
+pub record AddsIn (asked : AskedRows) (clients : Clients) (row other : AclRow)
+    (direction : Direction) : Type 0 where
+  pub grants_it : would_grant direction row.access ≡ true
+  pub finds : Finds (Open direction) asked clients (row ∷ []) (maker_cover direction other)
 
--- the other row concerns nothing that the row does, of which something concerns clients
-abbrev pub MissesRow : Rules → Option Clients → (row other : AclRow) → Type 0
-MissesRow Own (Some clients) row other = (client name : List ℕ) (user : Option (List ℕ))
+abbrev pub AddsNoneIn : AskedRows → Clients → (row other : AclRow) → Direction → Type 0
+AddsNoneIn asked clients row other direction = would_grant direction row.access ≡ true
+    → FindsNone (Open direction) asked clients (row ∷ []) (maker_cover direction other)
+
+-- in neither direction
+abbrev pub AddsNone : AskedRows → (row other : AclRow) → Clients → Type 0
+AddsNone asked row other clients =
+    (direction : Direction) → AddsNoneIn asked clients row other direction
+
+-- the other row concerns nothing that the row does
+abbrev pub MissesRow : Rules → (row other : AclRow) → Type 0
+MissesRow Own row other = (client name : List ℕ) (user : Option (List ℕ))
     → concerns client user name row ≡ true → concerns client user name other ≡ false
-MissesRow rules clients row other = ⊥
+MissesRow Mosquitto row other = ⊥

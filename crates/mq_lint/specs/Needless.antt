@@ -128,6 +128,11 @@ pub record MakesNeedless (rules : Rules) (all : List AclRow) (other row : AclRow
   pub kind : may_make rules other row ≡ true
   pub same : AllowSame rules all (as_grant row ∷ (as_grant other ∷ [])) (as_grant other ∷ [])
 
+-- by itself the row, taken for one that grants, allows nothing: the broker refuses all that it covers,
+-- or it covers nothing
+abbrev pub AllowsNothing : Rules → (all : List AclRow) → AclRow → Type 0
+AllowsNothing rules all row = AllowSame rules all (as_grant row ∷ []) []
+
 -- a row that isn't called needless, nor repeats one that is, makes it needless
 pub record IsMaker (rules : Rules) (rows : List Row) (called : List AclRow) (row : AclRow)
     (place line : ℕ) : Type 0 where
@@ -144,16 +149,18 @@ MakesNone rules rows called row n = (place : ℕ) (d : Row) → place < n → pl
     → is_among called (row_view (slice_index_or rows place d)) ≡ false
     → MakesNeedless rules (row_views rows) (row_view (slice_index_or rows place d)) row → ⊥
 
--- the first row that does
+-- the first row that does, of a row that allows something
 pub record IsFirstMaker (rules : Rules) (rows : List Row) (called : List AclRow) (row : AclRow)
     (line : ℕ) : Type 0 where
+  pub allows : AllowsNothing rules (row_views rows) row → ⊥
   pub place : ℕ
   pub maker : IsMaker rules rows called row place line
   pub first : MakesNone rules rows called row place
 
 abbrev pub IsBy : Rules → List Row → List AclRow → AclRow → Option ℕ → Type 0
 IsBy rules rows called row (Some line) = IsFirstMaker rules rows called row line
-IsBy rules rows called row None = MakesNone rules rows called row (length rows)
+IsBy rules rows called row None = AllowsNothing rules (row_views rows) row
+    ⊎ MakesNone rules rows called row (length rows)
 
 -- ---- which rows are called needless
 abbrev pub is_needless : Option RemarkKind → Bool

@@ -4,6 +4,7 @@ ghost use Rattle.std.specs.Prelude.{Contains};
 ghost use Rattle.std.specs.List.{filter};
 ghost use Rattle.mq_acl.specs.Views.{row_view};
 ghost use Rattle.mq_witness.specs.Rows.{lent_rows};
+ghost use Rattle.mq_witness.specs.declared.topics.Topics.TheVariants as topics;
 ghost use Rattle.mq_differences.specs.Marks.{views_of};
 ghost use Rattle.mq_lint.specs.Needless.{without, without_all};
 ghost use Rattle.mq_lint.specs.Cases.{Finds, FindsNone, GrantsAlone, GrantsNone, IsNeeded};
@@ -18,6 +19,7 @@ use crate::question::Question;
 use crate::same::same_row;
 use mq_acl::{Direction, Row, Rules, is_deny};
 use mq_differences::{Marked, Steps, is_judge, rank};
+use mq_witness::Topics;
 use std::alloc::{AllocError, Global};
 
 // So many rows are gathered in the time of one look at a row.
@@ -110,21 +112,22 @@ impl<'q, 'a> Case<'q, 'a> {
         self.count() / GATHERED
     }
 
-    // Whether the row and this other one concern a topic that none of the cover does.
+    // Whether the row and this other one concern one of these topics that none of the cover does.
     fn meets(
         &self,
         alloc: Global,
         steps: &mut Steps,
+        topics: Topics,
         other: &Row,
         cover: &[&Row],
     ) -> Result<bool, NeedlessFault>
         requires other { Contains self.now.question.asked.now.rows (row_view other.now) }
         requires cover { All (Contains self.now.question.asked.now.rows) (lent_rows cover.now) }
-        ensures found { IfOk result (λ met. met ≡ true → Finds self.now.question.asked.now
+        ensures found { IfOk result (λ met. met ≡ true → Finds topics self.now.question.asked.now
             self.now.question.clients
             (row_view self.now.question.row.now ∷ (row_view other.now ∷ []))
             (lent_rows cover.entry.now)) }
-        ensures none { IfOk result (λ met. met ≡ false → FindsNone self.now.question.asked.now
+        ensures none { IfOk result (λ met. met ≡ false → FindsNone topics self.now.question.asked.now
             self.now.question.clients
             (row_view self.now.question.row.now ∷ (row_view other.now ∷ []))
             (lent_rows cover.entry.now)) }
@@ -133,11 +136,12 @@ impl<'q, 'a> Case<'q, 'a> {
     {
         if !self
             .question
-            .stands_out_with(alloc, steps, other, &cover[..0])?
+            .stands_out_with(alloc, steps, topics, other, &cover[..0])?
         {
             return Ok(false);
         }
-        self.question.stands_out_with(alloc, steps, other, cover)
+        self.question
+            .stands_out_with(alloc, steps, topics, other, cover)
     }
 
     // Whether the row decides about the direction where else one of this rank would.
@@ -163,7 +167,7 @@ impl<'q, 'a> Case<'q, 'a> {
             if !is_at(rules, direction, place, other) {
                 continue;
             }
-            if self.meets(alloc, steps, other, &cover)? {
+            if self.meets(alloc, steps, Topics::Open(direction), other, &cover)? {
                 return Ok(true);
             }
         }
@@ -190,7 +194,8 @@ impl<'q, 'a> Case<'q, 'a> {
             return Ok(false);
         }
         let cover = before(alloc, self.question.rules, &self.others, direction, RANKS)?;
-        let alone = self.question.stands_out(alloc, steps, &cover)?;
+        let open = Topics::Open(direction);
+        let alone = self.question.stands_out(alloc, steps, open, &cover)?;
         Ok(alone)
     }
 
@@ -252,7 +257,7 @@ impl<'q, 'a> Case<'q, 'a> {
     ) -> Result<bool, NeedlessFault>
         ensures some { IfOk result (λ met. met ≡ true → MeetsGrant self.now.question.asked.now.rules
             self.now.question.asked.now.rows (row_view self.now.question.row.now)) }
-        ensures none { IfOk result (λ met. met ≡ false → NoneMeets self.now.question.asked.now
+        ensures none { IfOk result (λ met. met ≡ false → NoneMeets topics.All self.now.question.asked.now
             self.now.question.clients (row_view self.now.question.row.now) permits []
             (lent_rows self.now.others.items)) }
         ensures fault { IfErr result (IsStop self.now.question.row.now.line
@@ -264,7 +269,7 @@ impl<'q, 'a> Case<'q, 'a> {
             }
             if self
                 .question
-                .stands_out_with(alloc, steps, other, &self.others[..0])?
+                .stands_out_with(alloc, steps, Topics::All, other, &self.others[..0])?
             {
                 return Ok(true);
             }

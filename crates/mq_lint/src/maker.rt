@@ -2,21 +2,25 @@
 ghost use Rattle.std.specs.Prelude.{◌≡◌, ◌&&◌, IfOk, IfErr, IfSome, IfNone, true, false, All, not};
 ghost use Rattle.std.specs.Prelude.{Contains, [], ◌∷◌, length};
 ghost use Rattle.std.specs.Option.{option_copied};
-ghost use Rattle.mq_acl.specs.Access.{is_deny, grants};
-ghost use Rattle.mq_acl.specs.Views.{access_view, owner_view, row_view};
+ghost use Rattle.mq_acl.specs.Access.{is_deny};
+ghost use Rattle.mq_acl.specs.Views.{access_view, owner_view, row_view, row_views};
+ghost use Rattle.mq_acl.specs.declared.access.Direction.{Direction};
 ghost use Rattle.mq_witness.specs.Rows.{lent_rows};
+ghost use Rattle.mq_witness.specs.declared.topics.Topics.TheVariants.{Open};
 ghost use Rattle.mq_differences.specs.ByOwner.{is_for};
-ghost use Rattle.mq_lint.specs.Needless.{IsBy, MakesNeedless, granted_access, may_make};
+ghost use Rattle.mq_lint.specs.Needless.{AllowsNothing, IsBy, MakesNeedless};
+ghost use Rattle.mq_lint.specs.Needless.{granted_access, may_make};
 ghost use Rattle.mq_lint.specs.NeedlessFault.{IsStop};
-ghost use Rattle.mq_lint.specs.Cases.{Finds, covers_access, grants_as_much, has_row, maker_cover};
-ghost use Rattle.mq_lint.specs.Cases.{MissesRow, may_be_for};
+ghost use Rattle.mq_lint.specs.Cases.{AddsIn, AddsNone, AddsNoneIn, Finds, granted_in, has_row};
+ghost use Rattle.mq_lint.specs.Cases.{MissesRow, maker_cover, would_grant};
 
 use crate::called::Called;
 use crate::fault::NeedlessFault;
 use crate::linted::Lint;
+use crate::question::Question;
 use mq_acl::{Access, Direction, Owner, Row, Rules, grants, is_deny};
 use mq_differences::{Steps, rank};
-use mq_witness::{Clients, may_overlap};
+use mq_witness::{Clients, Topics, may_overlap};
 use std::alloc::{AllocError, Global};
 
 // So many classes of clients are listed in the time of one look at a row.
@@ -32,25 +36,33 @@ fn granted_access(access: Access) -> Access
     }
 }
 
-// Whether, taken for rows that grant, the other grants the direction if the row does.
-fn grants_as_much(row: Access, other: Access, direction: Direction) -> bool
-    ensures { result ≡ grants_as_much (access_view row) (access_view other) direction }
+// Whether, taken for one that grants, a row with this access grants the direction.
+fn would_grant(direction: Direction, access: Access) -> bool
+    ensures { result ≡ would_grant direction (access_view access) }
 {
-    !grants(direction, granted_access(row)) || grants(direction, granted_access(other))
+    grants(direction, granted_access(access))
 }
 
-fn covers_access(row: Access, other: Access) -> bool
-    ensures { result ≡ covers_access (access_view row) (access_view other) }
+// A direction that it does.
+fn granted_in(access: Access) -> Direction
+    ensures { result ≡ granted_in (access_view access) }
 {
-    grants_as_much(row, other, Direction::Reading) && grants_as_much(row, other, Direction::Writing)
+    match access {
+        Access::Write => Direction::Writing,
+        _ => Direction::Reading,
+    }
 }
 
-// The other row, where it would have to concern whatever the row does.
-fn cover_of<'r>(alloc: Global, row: &Row, other: &'r Row) -> Result<Vec<&'r Row>, AllocError>
+// The other row, where it would have to concern whatever the row grants in the direction.
+fn cover_of<'r>(
+    alloc: Global,
+    direction: Direction,
+    other: &'r Row,
+) -> Result<Vec<&'r Row>, AllocError>
     ensures { IfOk result (λ cover. lent_rows cover.items
-        ≡ maker_cover (row_view row.now) (row_view other.entry.now)) }
+        ≡ maker_cover direction (row_view other.entry.now)) }
 {
-    if !covers_access(row.access, other.access) {
+    if !would_grant(direction, other.access) {
         return Ok(Vec::new(alloc));
     }
     Ok(vec![in alloc; other]?)
@@ -62,6 +74,51 @@ fn may_make(rules: Rules, other: &Row, row: &Row) -> bool
 {
     let says_as = is_deny(row.access) == is_deny(other.access);
     says_as || rank(rules, other) < rank(rules, row)
+}
+
+// Whether, taken for rows that grant, the row grants clients something in this direction that the other doesn't.
+fn adds_in(
+    alloc: Global,
+    question: &Question,
+    steps: &mut Steps,
+    other: &Row,
+    direction: Direction,
+) -> Result<bool, NeedlessFault>
+    requires other { Contains question.now.asked.now.rows (row_view other.now) }
+    ensures some { IfOk result (λ adds. adds ≡ true → AddsIn question.now.asked.now
+        question.now.clients (row_view question.now.row.now) (row_view other.now) direction) }
+    ensures none { IfOk result (λ adds. adds ≡ false → AddsNoneIn question.now.asked.now
+        question.now.clients (row_view question.now.row.now) (row_view other.now) direction) }
+    ensures fault { IfErr result (IsStop question.now.row.now.line question.now.limited) }
+{
+    if !would_grant(direction, question.row.access) {
+        return Ok(false);
+    }
+    let cover = cover_of(alloc, direction, other)?;
+    let adds = question.stands_out(alloc, steps, Topics::Open(direction), &cover)?;
+    Ok(adds)
+}
+
+// Whether it does in either.
+fn adds(
+    alloc: Global,
+    question: &Question,
+    steps: &mut Steps,
+    other: &Row,
+) -> Result<bool, NeedlessFault>
+    requires other { Contains question.now.asked.now.rows (row_view other.now) }
+    ensures some { IfOk result (λ adds. adds ≡ true → (direction : Direction)
+        × AddsIn question.now.asked.now question.now.clients (row_view question.now.row.now)
+        (row_view other.now) direction) }
+    ensures none { IfOk result (λ adds. adds ≡ false → AddsNone question.now.asked.now
+        (row_view question.now.row.now) (row_view other.now) question.now.clients) }
+    ensures fault { IfErr result (IsStop question.now.row.now.line question.now.limited) }
+{
+    if adds_in(alloc, question, steps, other, Direction::Reading)? {
+        return Ok(true);
+    }
+    let writing = adds_in(alloc, question, steps, other, Direction::Writing)?;
+    Ok(writing)
 }
 
 // Whether the other row makes the row needless.
@@ -84,21 +141,21 @@ fn makes_needless(
     if !may_make(lint.rules, other, row) {
         return Ok(false);
     }
-    let cover = cover_of(alloc, row, other)?;
     let classes = lint.classes(alloc, row)?;
     if !steps.spend(lint.limited, classes.len() as u64 / CLASSES) {
         return Err(NeedlessFault::GaveUp(row.line, 1));
     }
     for clients in &classes {
         let question = lint.question(*clients, row);
-        if question.stands_out(alloc, steps, &cover)? {
+        if adds(alloc, &question, steps, other)? {
             return Ok(false);
         }
     }
     Ok(true)
 }
 
-// Clients whom the row concerns, if there are any: no row that isn't for them makes it needless.
+// Clients who have a topic that the row concerns, of those that they may read, or write: no row that isn't for them makes
+// it needless. If there are none, it allows nothing by itself.
 fn concerned<'c>(
     alloc: Global,
     lint: &'c Lint,
@@ -106,14 +163,21 @@ fn concerned<'c>(
     row: &'c Row,
 ) -> Result<Option<Clients<'c>>, NeedlessFault>
     requires { has_row (row_view row.now) lint.now.asked.rows ≡ true }
-    ensures some { IfOk result (λ found. IfSome found (λ clients. Finds lint.entry.now.asked
-        clients (row_view row.entry.now ∷ []) [])) }
+    ensures some { IfOk result (λ found. IfSome found (λ clients. Finds
+        (Open (granted_in (row_view row.entry.now).access)) lint.entry.now.asked clients
+        (row_view row.entry.now ∷ []) [])) }
+    ensures allows { IfOk result (λ found. IfSome found (λ clients.
+        AllowsNothing lint.entry.now.asked.rules (row_views lint.entry.now.rows.now)
+        (row_view row.entry.now) → ⊥)) }
+    ensures none { IfOk result (λ found. IfNone found (AllowsNothing lint.entry.now.asked.rules
+        (row_views lint.entry.now.rows.now) (row_view row.entry.now))) }
     ensures fault { IfErr result (IsStop row.entry.now.line lint.entry.now.limited) }
 {
+    let open = Topics::Open(granted_in(row.access));
     let classes = lint.classes(alloc, row)?;
     for clients in &classes {
         let question = lint.question(*clients, row);
-        if question.stands_out(alloc, steps, &[])? {
+        if question.stands_out(alloc, steps, open, &[])? {
             return Ok(Some(*clients));
         }
     }
@@ -131,29 +195,17 @@ fn is_for(clients: Clients, owner: &Owner) -> bool
     }
 }
 
-// Whether the row may be for these clients, if any are given.
-fn may_be_for(clients: Option<Clients>, row: &Row) -> bool
-    ensures { result ≡ may_be_for clients.entry (owner_view row.now.owner) }
+// Whether the other row may concern something that the row does.
+fn may_meet(rules: Rules, row: &Row, other: &Row) -> bool
+    ensures { result ≡ false → MissesRow rules (row_view row.now) (row_view other.now) }
 {
-    match clients {
-        Some(clients) => is_for(clients, &row.owner),
-        None => true,
+    match rules {
+        Rules::Own => may_overlap(row, other),
+        Rules::Mosquitto => true,
     }
 }
 
-// Whether the other row may concern something that the row does, which concerns something that the clients have, if any
-// are given.
-fn may_meet(rules: Rules, clients: Option<Clients>, row: &Row, other: &Row) -> bool
-    ensures { result ≡ false
-        → MissesRow rules clients.entry (row_view row.now) (row_view other.now) }
-{
-    match (rules, clients) {
-        (Rules::Own, Some(_)) => may_overlap(row, other),
-        _ => true,
-    }
-}
-
-/// The line of the first row that is left and makes the row needless.
+/// The line of the first row that is left and makes the row needless, if the row allows anything by itself.
 pub(crate) fn maker<'a>(
     alloc: Global,
     lint: &Lint<'a>,
@@ -167,18 +219,21 @@ pub(crate) fn maker<'a>(
         (lent_rows called.entry.now.called.items) (row_view row.now)) }
     ensures fault { IfErr result (IsStop row.now.line lint.entry.now.limited) }
 {
-    let clients = concerned(alloc, lint, steps, row)?;
+    let found = concerned(alloc, lint, steps, row)?;
+    let Some(clients) = found else {
+        return Ok(None);
+    };
     for (place, other) in lint.rows.iter().enumerate() {
         if called.is_out(place) {
             continue;
         }
-        if !may_be_for(clients, other) {
+        if !is_for(clients, &other.owner) {
             continue;
         }
         if !steps.spend(lint.limited, 1) {
             return Err(NeedlessFault::GaveUp(row.line, 1));
         }
-        if !may_meet(lint.rules, clients, row, other) {
+        if !may_meet(lint.rules, row, other) {
             continue;
         }
         if makes_needless(alloc, lint, steps, row, other)? {

@@ -1,3 +1,4 @@
+pub mod GrantedLemmas
 pub mod LoopLemmas
 pub mod OwnLemmas
 pub mod PartLemmas

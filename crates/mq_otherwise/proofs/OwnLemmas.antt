@@ -16,6 +16,7 @@ use Rattle.mq_witness.specs.Asked.{AskedRows, is_client_of}
 use Rattle.mq_witness.specs.Ruled.{has_patterns, has_whole_marks}
 use Rattle.mq_witness.specs.declared.clients.Clients.{Clients}
 use Rattle.mq_witness.specs.declared.clients.Clients.TheVariants as clients
+use Rattle.mq_witness.specs.declared.topics.Topics.TheVariants.{Open}
 use Rattle.mq_differences.specs.Classes.{can_be_user}
 use Rattle.mq_differences.specs.Questions.{IsPoint}
 use Rattle.mq_otherwise.specs.Answers.{DecideAllSame, IsAsked}
@@ -58,7 +59,7 @@ own_same false false p q r s ep eq er es = rw (ep, eq, er, es) refl
 
 pub same_without : (rows : List Row) → has_patterns (row_views rows) ≡ false
     → DecideAllSame (row_views rows)
-same_without rows none client topic user direction f u a v =
+same_without rows none client topic user direction f u a v t =
     let asked : AskedRows = record {
       rules = Mosquitto;
       rows = row_views rows;
@@ -70,9 +71,10 @@ same_without rows none client topic user direction f u a v =
       are = refl;
       whole = all_whole (row_views rows) none;
     } in
-    let point : IsPoint asked c client user topic = record {
+    let point : IsPoint (Open direction) asked c client user topic = record {
       is_asked = record { client_fits = f; user_fits = class_has asked user u; are_asked = a };
       valid = v;
+      taken = t;
     } in
     let dollar = begins_with_dollar topic in
     let empty : (deny aside : Bool)

@@ -7,6 +7,7 @@ use Rattle.std.proofs.lemmas.List.Elements.{All-append, All-cons, All-nil}
 use Rattle.std.proofs.lemmas.List.Folds.{list_any_at}
 use Rattle.mq_topic.proofs.ByteLemmas.{text_is, text_itself}
 use Rattle.mq_acl.specs.Access.{begins_with_dollar}
+use Rattle.mq_acl.specs.Refused.{refuses}
 use Rattle.mq_acl.specs.declared.access.Direction.{Direction}
 use Rattle.mq_acl.specs.declared.access.Direction.TheVariants.{Reading, Writing}
 use Rattle.mq_acl.specs.declared.row.Row.{Row}
@@ -17,6 +18,7 @@ use Rattle.mq_witness.specs.Rows.{is_user_of}
 use Rattle.mq_witness.specs.Ruled.{are_asked_of}
 use Rattle.mq_witness.specs.declared.clients.Clients.{Clients}
 use Rattle.mq_witness.specs.declared.clients.Clients.TheVariants as clients
+use Rattle.mq_witness.specs.declared.topics.Topics.TheVariants.{Open}
 use Rattle.mq_differences.specs.Classes.{can_be_user, user_of}
 use Rattle.mq_differences.specs.Questions.{IsPoint}
 use Rattle.mq_differences.specs.Reasons.{reason_of}
@@ -75,15 +77,17 @@ both_directions asked c r w Writing = w
 
 -- ---- clients
 case_point : (rows : List Row) (asked : AskedRows) (c : Clients) (client topic : List ℕ)
-    (user : Option (List ℕ)) → IsAsked rows asked → is_client_of asked c user ≡ true
-    → IsCase asked.rows client user topic → IsPoint asked c client user topic
-case_point rows asked c client topic user is of case = record {
+    (user : Option (List ℕ)) {direction : Direction} → IsAsked rows asked
+    → is_client_of asked c user ≡ true → IsCase direction asked.rows client user topic
+    → IsPoint (Open direction) asked c client user topic
+case_point rows asked c client topic user {direction} is of case = record {
   is_asked = record {
     client_fits = case.client_fits;
     user_fits = of;
     are_asked = ap (λ r. are_asked_of r asked.rows client user) is.rules ∙ case.are_asked;
   };
   valid = case.valid;
+  taken = ap (λ r. refuses r direction topic) is.rules ∙ case.taken;
 }
 
 pub same_for_user : (rows : List Row) (asked : AskedRows) (name : Bor (List ℕ))
@@ -159,17 +163,18 @@ pub all_clients : (rows : List Row) (asked : AskedRows) → IsAsked rows asked
     → ((user : List ℕ) → is_user_of user asked.rows ≡ true → DecideSameFor asked (Some user))
     → ((direction : Direction) → DecideSameIn asked clients.Others direction)
     → DecideAllSame asked.rows
-all_clients rows asked is anonymous users others client topic None direction f u a v =
-    let case : IsCase asked.rows client None topic =
-    record { client_fits = f; user_fits = u; are_asked = a; valid = v } in
+all_clients rows asked is anonymous users others client topic None direction f u a v t =
+    let case : IsCase direction asked.rows client None topic =
+    record { client_fits = f; user_fits = u; are_asked = a; valid = v; taken = t } in
     anonymous direction client topic None
     (case_point rows asked clients.Anonymous client topic None is refl case)
-all_clients rows asked is anonymous users others client topic (Some name) direction f u a v =
-    let case : IsCase asked.rows client (Some name) topic =
-    record { client_fits = f; user_fits = u; are_asked = a; valid = v } in
+all_clients rows asked is anonymous users others client topic (Some name) direction f u a v t =
+    let case : IsCase direction asked.rows client (Some name) topic =
+    record { client_fits = f; user_fits = u; are_asked = a; valid = v; taken = t } in
     at (is_user_of name asked.rows) refl case
   where
-    at : (b : Bool) → is_user_of name asked.rows ≡ b → IsCase asked.rows client (Some name) topic
+    at : (b : Bool) → is_user_of name asked.rows ≡ b
+        → IsCase direction asked.rows client (Some name) topic
         → DecideSame asked.rows client (Some name) topic direction
     at true e case = users name e client topic direction case
     at false e case =
@@ -180,7 +185,7 @@ all_clients rows asked is anonymous users others client topic (Some name) direct
 -- ---- what is shown of a witness
 pub real_of : (rows : List Row) (asked : AskedRows) (c : Clients) (shown : Otherwise)
     (user : Option (List ℕ)) → IsAsked rows asked → user_of shown.class ≡ user
-    → IsPoint asked c (string_bytes shown.client) user shown.topic
+    → IsPoint (Open shown.direction) asked c (string_bytes shown.client) user shown.topic
     → DecideOtherwise asked.rows (string_bytes shown.client) user shown.topic shown.direction
     → shown.own ≡ reason_of Own rows (string_bytes shown.client) (user_of shown.class) shown.topic
     shown.direction
@@ -194,6 +199,7 @@ real_of rows asked c shown user is same point otherwise own mosquitto = record {
     are_asked = (λ i. are_asked_of (sym is.rules i) (sym is.are i) (string_bytes shown.client)
         (same i)) ∙ point.is_asked.are_asked;
     valid = point.valid;
+    taken = ap (λ r. refuses r shown.direction shown.topic) (sym is.rules) ∙ point.taken;
   };
   otherwise = subst (λ r. DecideOtherwise r (string_bytes shown.client) (user_of shown.class)
       shown.topic shown.direction) is.are

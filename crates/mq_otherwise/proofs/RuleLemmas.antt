@@ -9,6 +9,7 @@ use Rattle.std.proofs.lemmas.List.Elements.{All-map}
 use Rattle.std.proofs.lemmas.List.Folds.{list_any_at}
 use Rattle.mq_acl.specs.Access.{begins_with_dollar, concerns, grants}
 use Rattle.mq_acl.specs.AccessLists.{allow_by, concerns_by, user_by}
+use Rattle.mq_acl.specs.Refused.{refuses}
 use Rattle.mq_acl.specs.Rows.{AclRow}
 use Rattle.mq_acl.specs.RowsByOwner.{is_everyones}
 use Rattle.mq_acl.specs.Views.{row_view, row_views}
@@ -20,6 +21,7 @@ use Rattle.mq_witness.specs.Decided.{begins_with_mark, first_is_mark}
 use Rattle.mq_witness.specs.Ruled.{are_asked_of, decides_by, has_whole_marks}
 use Rattle.mq_witness.specs.Ruled.{is_asked_of}
 use Rattle.mq_witness.specs.declared.clients.Clients.{Clients}
+use Rattle.mq_witness.specs.declared.topics.Topics.TheVariants.{Open}
 use Rattle.mq_witness.proofs.RuledLemmas.{is_same_for, rows_same}
 use Rattle.mq_topic.specs.Levels.{levels}
 use Rattle.mq_differences.specs.ByOwner.{is_for, is_own}
@@ -77,7 +79,7 @@ else_same false false false false false false f g h = refl
 -- ---- one client and topic
 module _ (rows : List Row) (asked : AskedRows) (c : Clients) (client name : List ℕ)
     (user : Option (List ℕ)) (direction : Direction) (dollar : Bool) (is : IsAsked rows asked)
-    (point : IsPoint asked c client user name) (kind : begins_with_dollar name ≡ dollar) where
+    (point : IsPoint (Open direction) asked c client user name) (kind : begins_with_dollar name ≡ dollar) where
   abbrev pub some : List AclRow → Bool
   some part = list_any (concerns_by Mosquitto client user name) part
 
@@ -149,6 +151,7 @@ module _ (rows : List Row) (asked : AskedRows) (c : Clients) (client name : List
       (pattern false false) (pattern false true)
   mosquitto_is =
       allowed_at Mosquitto asked.rows client user name direction
+      (ap (λ r. refuses r direction name) (sym is.rules) ∙ point.taken)
       ∙ ap (λ u. let k : AclRow → Bool = concerns_by Mosquitto client u name in
       if some_at Mosquitto direction k 0 asked.rows then false
       else (if some_at Mosquitto direction k 1 asked.rows then true
@@ -279,7 +282,7 @@ module _ (rows : List Row) (asked : AskedRows) (c : Clients) (client name : List
       (and_parts (k one) true parts.0).0))
 
   -- ---- where they don't
-  pair_none : (denies grants cover : List AclRow) → NonePairs asked c dollar denies grants cover
+  pair_none : (denies grants cover : List AclRow) → NonePairs asked c direction dollar denies grants cover
       → some denies ≡ true → some grants ≡ true → some cover ≡ false → ⊥
   pair_none denies grants cover none d g n =
       let k = concerns_by Mosquitto client user name in
@@ -289,13 +292,13 @@ module _ (rows : List Row) (asked : AskedRows) (c : Clients) (client name : List
       (get_or denies one.place one.item ∷ (get_or grants other.place other.item ∷ [])) cover)
       (sym is.rules)
       ∙ none one.place one.item one.in_range other.place other.item other.in_range client name
-      user point.is_asked point.valid kind in
+      user point.is_asked point.valid kind point.taken in
       let yes : decides_by Mosquitto client user name
       (get_or denies one.place one.item ∷ (get_or grants other.place other.item ∷ [])) cover
       ≡ true = (λ i. (one.here one.item i && (other.here other.item i && true)) && not (n i)) in
       absurd (let q : true ≡ false = sym yes ∙ no in cc)
 
-  alone_none : (grants cover : List AclRow) → NoneAlone asked c dollar grants cover
+  alone_none : (grants cover : List AclRow) → NoneAlone asked c direction dollar grants cover
       → some grants ≡ true → some cover ≡ false → ⊥
   alone_none grants cover none g n =
       let k = concerns_by Mosquitto client user name in
@@ -303,19 +306,19 @@ module _ (rows : List Row) (asked : AskedRows) (c : Clients) (client name : List
       let no = ap (λ r. decides_by r client user name
       (get_or grants other.place other.item ∷ []) cover) (sym is.rules)
       ∙ none other.place other.item other.in_range client name user point.is_asked point.valid
-      kind in
+      kind point.taken in
       let yes : decides_by Mosquitto client user name
       (get_or grants other.place other.item ∷ []) cover ≡ true =
       (λ i. (other.here other.item i && true) && not (n i)) in
       absurd (let q : true ≡ false = sym yes ∙ no in cc)
 
   pub else_decide_same :
-      NonePairs asked c dollar (pattern_part direction dollar true false asked.rows)
+      NonePairs asked c direction dollar (pattern_part direction dollar true false asked.rows)
       (own_part c direction false asked.rows) (own_part c direction true asked.rows)
-      → NonePairs asked c dollar (pattern_part direction dollar true true asked.rows)
+      → NonePairs asked c direction dollar (pattern_part direction dollar true true asked.rows)
       (pattern_part direction dollar false false asked.rows)
       (first_rows c direction dollar asked.rows)
-      → NoneAlone asked c dollar (pattern_part direction dollar false true asked.rows)
+      → NoneAlone asked c direction dollar (pattern_part direction dollar false true asked.rows)
       (other_rows c direction dollar asked.rows)
       → DecideSame asked.rows client user name direction
   else_decide_same granted denied aside =
@@ -359,12 +362,12 @@ differ_aside rows asked c direction dollar is j g below client name user point k
 
 pub decide_same : (rows : List Row) (asked : AskedRows) (c : Clients) (direction : Direction)
     (dollar : Bool) → IsAsked rows asked
-    → NonePairs asked c dollar (pattern_part direction dollar true false asked.rows)
+    → NonePairs asked c direction dollar (pattern_part direction dollar true false asked.rows)
     (own_part c direction false asked.rows) (own_part c direction true asked.rows)
-    → NonePairs asked c dollar (pattern_part direction dollar true true asked.rows)
+    → NonePairs asked c direction dollar (pattern_part direction dollar true true asked.rows)
     (pattern_part direction dollar false false asked.rows)
     (first_rows c direction dollar asked.rows)
-    → NoneAlone asked c dollar (pattern_part direction dollar false true asked.rows)
+    → NoneAlone asked c direction dollar (pattern_part direction dollar false true asked.rows)
     (other_rows c direction dollar asked.rows)
     → DecideSameOf asked c direction dollar
 decide_same rows asked c direction dollar is granted denied aside client topic user point kind =

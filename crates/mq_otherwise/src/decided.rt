@@ -1,6 +1,7 @@
-ghost use Rattle.std.specs.Prelude.{◌≡◌, ℕ, List, [], All, IfOk, IfErr, OnOk, true, Option, Some};
+ghost use Rattle.std.specs.Prelude.{◌≡◌, ℕ, List, [], All, IfOk, IfErr, OnOk, false, true, Option, Some};
 ghost use Rattle.mq_topic.specs.Texts.{is_name};
 ghost use Rattle.mq_acl.specs.AccessLists.{allow_by};
+ghost use Rattle.mq_acl.specs.Refused.{refuses};
 ghost use Rattle.mq_acl.specs.Views.{row_views};
 ghost use Rattle.mq_acl.specs.declared.access.Direction.{Direction};
 ghost use Rattle.mq_acl.specs.declared.rules.Rules.TheVariants as rules;
@@ -140,7 +141,7 @@ fn add_all(alloc: Global, report: &mut Report, list: &AskedList) -> Result<(), O
 /// user name, of those of each user name that the list names, and of those of all others, in each
 /// direction, one of the topics that begin with `$` and one of the others, where there is one.
 /// Where the list has `pattern` lines it is about client ids and user names without `/`, `+` and
-/// `#`.
+/// `#`. It isn't about what mosquitto refuses by itself (`mq_acl::refuses`).
 ///
 /// A step is a row that is looked at for one question, or as much work as that takes. Where the
 /// steps don't suffice it is given up, so that an answer is always the whole one. So many as
@@ -154,7 +155,7 @@ pub fn decided_otherwise(
         (user : Option (List ℕ)) (direction : Direction) → can_be_id client ≡ true
         → can_be_user user ≡ true
         → are_asked_of rules.Mosquitto (row_views rows.entry.now) client user ≡ true
-        → is_name topic ≡ true
+        → is_name topic ≡ true → refuses rules.Mosquitto direction topic ≡ false
         → allow_by rules.Own (row_views rows.entry.now) client user topic direction
         ≡ allow_by rules.Mosquitto (row_views rows.entry.now) client user topic direction) }
     ensures real { IfOk result (λ all. All (IsReal rows.entry.now) all.items) }

@@ -3,6 +3,7 @@
 
 mod decided;
 mod fault;
+mod in_vain;
 mod list;
 mod otherwise;
 mod parts;
@@ -11,4 +12,5 @@ mod report;
 
 pub use decided::decided_otherwise;
 pub use fault::OtherwiseFault;
+pub use in_vain::{InVain, granted_in_vain};
 pub use otherwise::Otherwise;

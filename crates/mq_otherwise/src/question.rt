@@ -5,6 +5,7 @@ ghost use Rattle.mq_acl.specs.Views.{row_view};
 ghost use Rattle.mq_witness.specs.Asked.{user_view};
 ghost use Rattle.mq_witness.specs.Rows.{lent_rows};
 ghost use Rattle.mq_witness.specs.Ruled.{FindsNoneBy};
+ghost use Rattle.mq_witness.specs.declared.topics.Topics.TheVariants.{Open};
 ghost use Rattle.mq_differences.specs.Questions.{IsPoint};
 ghost use Rattle.mq_otherwise.specs.Answers.{DecideOtherwise, DecideSameOf, Differ, DifferAlone};
 ghost use Rattle.mq_otherwise.specs.Answers.{DifferPairs, DifferWith, IsQuestion, IsReal};
@@ -17,7 +18,7 @@ use crate::otherwise::Otherwise;
 use crate::parts::Parts;
 use mq_acl::{Direction, Row, Rules};
 use mq_differences::{Steps, class_of, why, work_of};
-use mq_witness::{Asked, Clients, Witness};
+use mq_witness::{Asked, Clients, Topics, Witness};
 use std::alloc::{AllocError, Global};
 
 /// Clients of one class, a direction, and topics that begin with `$`, or the others.
@@ -73,8 +74,8 @@ impl Question<'_, '_> {
 
     // What is shown of a witness.
     fn describe(&self, witness: Witness) -> Otherwise
-        requires point { IsPoint self.now.asked.now self.now.clients (string_bytes witness.client)
-            (user_view witness.user) witness.name }
+        requires point { IsPoint (Open self.now.direction) self.now.asked.now self.now.clients
+            (string_bytes witness.client) (user_view witness.user) witness.name }
         requires otherwise { DecideOtherwise self.now.asked.now.rows (string_bytes witness.client)
             (user_view witness.user) witness.name self.now.direction }
         ensures { IsReal self.now.rows.now result }
@@ -121,13 +122,14 @@ impl Question<'_, '_> {
         requires differ { Differ self.now.asked.now self.now.clients self.now.direction
             self.now.dollar (lent_rows must.now) (lent_rows cover.now) }
         ensures none { IfOk result (λ found. IfNone found (FindsNoneBy self.now.dollar
-            self.now.asked.now self.now.clients (lent_rows must.entry.now)
+            (Open self.now.direction) self.now.asked.now self.now.clients (lent_rows must.entry.now)
             (lent_rows cover.entry.now))) }
         ensures real { IfOk result (λ found. IfSome found (IsReal self.now.rows.now)) }
     {
+        let open = Topics::Open(self.direction);
         let Some(witness) = self
             .asked
-            .find_kind(alloc, self.clients, self.dollar, must, cover)?
+            .find_kind(alloc, self.clients, self.dollar, open, must, cover)?
         else {
             return Ok(None);
         };
@@ -138,11 +140,12 @@ impl Question<'_, '_> {
     fn meet(&self, alloc: Global, must: &[&Row]) -> Result<bool, AllocError>
         requires { All (Contains self.now.asked.now.rows) (lent_rows must.now) }
         ensures { IfOk result (λ met. met ≡ false → FindsNoneBy self.now.dollar
-            self.now.asked.now self.now.clients (lent_rows must.entry.now) []) }
+            (Open self.now.direction) self.now.asked.now self.now.clients (lent_rows must.entry.now) []) }
     {
+        let open = Topics::Open(self.direction);
         let found = self
             .asked
-            .find_kind(alloc, self.clients, self.dollar, must, &must[..0])?;
+            .find_kind(alloc, self.clients, self.dollar, open, must, &must[..0])?;
         if found.is_none() {
             return Ok(false);
         }
@@ -167,7 +170,7 @@ impl Question<'_, '_> {
         requires differ { Differ self.now.asked.now self.now.clients self.now.direction
             self.now.dollar (lent_rows must.now) (lent_rows cover.now) }
         ensures none { IfOk result (λ found. IfNone found (FindsNoneBy self.now.dollar
-            self.now.asked.now self.now.clients (lent_rows must.entry.now)
+            (Open self.now.direction) self.now.asked.now self.now.clients (lent_rows must.entry.now)
             (lent_rows cover.entry.now))) }
         ensures real { IfOk result (λ found. IfSome found (IsReal self.now.rows.now)) }
         ensures fault { IfErr result (IsStop self.now.limited) }
@@ -200,7 +203,7 @@ impl Question<'_, '_> {
         requires differ { DifferWith self.now.asked.now self.now.clients self.now.direction
             self.now.dollar (row_view deny.now) (lent_rows grants.now) (lent_rows cover.now) }
         ensures none { IfOk result (λ found. IfNone found (NoneWith self.now.asked.now
-            self.now.clients self.now.dollar (row_view deny.entry.now)
+            self.now.clients self.now.direction self.now.dollar (row_view deny.entry.now)
             (lent_rows grants.entry.now) (lent_rows cover.entry.now))) }
         ensures real { IfOk result (λ found. IfSome found (IsReal self.now.rows.now)) }
         ensures fault { IfErr result (IsStop self.now.limited) }
@@ -228,7 +231,7 @@ impl Question<'_, '_> {
         requires differ { DifferPairs self.now.asked.now self.now.clients self.now.direction
             self.now.dollar (lent_rows denies.now) (lent_rows grants.now) (lent_rows cover.now) }
         ensures none { IfOk result (λ found. IfNone found (NonePairs self.now.asked.now
-            self.now.clients self.now.dollar (lent_rows denies.entry.now)
+            self.now.clients self.now.direction self.now.dollar (lent_rows denies.entry.now)
             (lent_rows grants.entry.now) (lent_rows cover.entry.now))) }
         ensures real { IfOk result (λ found. IfSome found (IsReal self.now.rows.now)) }
         ensures fault { IfErr result (IsStop self.now.limited) }
@@ -254,7 +257,7 @@ impl Question<'_, '_> {
         requires differ { DifferAlone self.now.asked.now self.now.clients self.now.direction
             self.now.dollar (lent_rows grants.now) (lent_rows cover.now) }
         ensures none { IfOk result (λ found. IfNone found (NoneAlone self.now.asked.now
-            self.now.clients self.now.dollar (lent_rows grants.entry.now)
+            self.now.clients self.now.direction self.now.dollar (lent_rows grants.entry.now)
             (lent_rows cover.entry.now))) }
         ensures real { IfOk result (λ found. IfSome found (IsReal self.now.rows.now)) }
         ensures fault { IfErr result (IsStop self.now.limited) }
@@ -277,7 +280,7 @@ impl Question<'_, '_> {
         requires { AreParts self.now.asked.now.rows self.now.clients self.now.direction
             self.now.dollar parts.now }
         ensures none { IfOk result (λ found. IfNone found (NonePairs self.now.asked.now
-            self.now.clients self.now.dollar
+            self.now.clients self.now.direction self.now.dollar
             (pattern_part self.now.direction self.now.dollar true false self.now.asked.now.rows)
             (own_part self.now.clients self.now.direction false self.now.asked.now.rows)
             (own_part self.now.clients self.now.direction true self.now.asked.now.rows))) }
@@ -298,7 +301,7 @@ impl Question<'_, '_> {
         requires { AreParts self.now.asked.now.rows self.now.clients self.now.direction
             self.now.dollar parts.now }
         ensures none { IfOk result (λ found. IfNone found (NonePairs self.now.asked.now
-            self.now.clients self.now.dollar
+            self.now.clients self.now.direction self.now.dollar
             (pattern_part self.now.direction self.now.dollar true true self.now.asked.now.rows)
             (pattern_part self.now.direction self.now.dollar false false self.now.asked.now.rows)
             (first_rows self.now.clients self.now.direction self.now.dollar
@@ -321,7 +324,7 @@ impl Question<'_, '_> {
         requires { AreParts self.now.asked.now.rows self.now.clients self.now.direction
             self.now.dollar parts.now }
         ensures none { IfOk result (λ found. IfNone found (NoneAlone self.now.asked.now
-            self.now.clients self.now.dollar
+            self.now.clients self.now.direction self.now.dollar
             (pattern_part self.now.direction self.now.dollar false true self.now.asked.now.rows)
             (other_rows self.now.clients self.now.direction self.now.dollar
             self.now.asked.now.rows))) }

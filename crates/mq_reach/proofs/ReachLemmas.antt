@@ -20,6 +20,7 @@ use Rattle.mq_acl.specs.Access.{applies, concerns, covers, grants, is_deny}
 use Rattle.mq_acl.specs.Rows.{AclRow}
 use Rattle.mq_acl.specs.RowsByOwner.{is_everyones, is_own}
 use Rattle.mq_acl.specs.declared.access.Direction.TheVariants.{Reading}
+use Rattle.mq_acl.specs.declared.rules.Rules.{Rules}
 use Rattle.mq_acl.proofs.ByOwnerLemmas.{any_kept, any_of_groups}
 use Rattle.mq_witness.specs.Decided.{decides}
 use Rattle.mq_witness.specs.Limits.{has_short_levels, is_short_row, long_line, short_who}
@@ -82,46 +83,47 @@ pub same-passes : (p q : AclRow → Bool) (denies grants_of others more : List A
     → passes p denies grants_of ≡ passes q others more
 same-passes p q denies grants_of others more d g = λ i. not (d i) && g i
 
-module _ (client : List ℕ) (user : Option (List ℕ)) (row : AclRow) (denies grants_of : List AclRow)
-  where
-    -- where no row that grants shows a topic, there is none
-    pub none-passes : ((grant : AclRow) → Contains grants_of grant
-        → FindsNoTopic client user (row ∷ grant ∷ []) denies)
-        → PassesNone client user row (concerns client user) denies grants_of
-    none-passes none name valid here =
-        pick (list_any (concerns client user name) grants_of)
-        (λ e. (let some = Any-from_list_any (concerns client user name) grants_of e in
-        let grant : AclRow = some.1 in
-        let decided : decides client user name (row ∷ grant ∷ []) denies ≡ false =
-        none grant (some.0, some.2, some.3) name valid in
-        (λ i. not (list_any (concerns client user name) denies) && e i)
-        ∙ and_true (not (list_any (concerns client user name) denies))
-        ∙ sym (λ i. (here i && (some.4 i && true))
-        && not (list_any (concerns client user name) denies))
-        ∙ decided))
-        (λ e. (λ i. not (list_any (concerns client user name) denies) && e i)
-        ∙ and-false (not (list_any (concerns client user name) denies)))
-      where
-        and_true : (b : Bool) → (b && true) ≡ b
-        and_true true = refl
-        and_true false = refl
+module _ (rules : Rules) (client : List ℕ) (user : Option (List ℕ)) (row : AclRow)
+    (denies grants_of : List AclRow) where
+  -- where no row that grants shows a topic, there is none
+  pub none-passes : ((grant : AclRow) → Contains grants_of grant
+      → FindsNoTopic rules client user (row ∷ grant ∷ []) denies)
+      → PassesNone rules client user row (concerns client user) denies grants_of
+  none-passes none name valid open_to here =
+      pick (list_any (concerns client user name) grants_of)
+      (λ e. (let some = Any-from_list_any (concerns client user name) grants_of e in
+      let grant : AclRow = some.1 in
+      let decided : decides client user name (row ∷ grant ∷ []) denies ≡ false =
+      none grant (some.0, some.2, some.3) name valid open_to in
+      (λ i. not (list_any (concerns client user name) denies) && e i)
+      ∙ and_true (not (list_any (concerns client user name) denies))
+      ∙ sym (λ i. (here i && (some.4 i && true))
+      && not (list_any (concerns client user name) denies))
+      ∙ decided))
+      (λ e. (λ i. not (list_any (concerns client user name) denies) && e i)
+      ∙ and-false (not (list_any (concerns client user name) denies)))
+    where
+      and_true : (b : Bool) → (b && true) ≡ b
+      and_true true = refl
+      and_true false = refl
 
-    -- a topic that one of them shows is one
-    pub one-passes : (grant : AclRow) (name : List ℕ) → Contains grants_of grant
-        → IsTopic client user (row ∷ grant ∷ []) denies name
-        → IsPassed client user row (concerns client user) denies grants_of name
-    one-passes grant name has is =
-        let both = and_parts (concerns client user name row
-        && (concerns client user name grant && true))
-        (not (list_any (concerns client user name) denies)) is.decided in
-        let must = and_parts (concerns client user name row)
-        (concerns client user name grant && true) both.0 in
-        let its = and_parts (concerns client user name grant) true must.1 in
-        record {
-          valid = is.valid;
-          concerned = must.0;
-          passed = λ i. both.1 i && some-at (concerns client user name) grants_of grant has its.0 i;
-        }
+  -- a topic that one of them shows is one
+  pub one-passes : (grant : AclRow) (name : List ℕ) → Contains grants_of grant
+      → IsTopic rules client user (row ∷ grant ∷ []) denies name
+      → IsPassed rules client user row (concerns client user) denies grants_of name
+  one-passes grant name has is =
+      let both = and_parts (concerns client user name row
+      && (concerns client user name grant && true))
+      (not (list_any (concerns client user name) denies)) is.decided in
+      let must = and_parts (concerns client user name row)
+      (concerns client user name grant && true) both.0 in
+      let its = and_parts (concerns client user name grant) true must.1 in
+      record {
+        valid = is.valid;
+        taken = is.taken;
+        concerned = must.0;
+        passed = λ i. both.1 i && some-at (concerns client user name) grants_of grant has its.0 i;
+      }
 
 -- ## The limit
 

@@ -1,22 +1,24 @@
 -- What a client may read by mosquitto's rules.
 use Rattle.std.proofs.Common.{◌≡◌, ℕ, Bool, true, false, ◌==◌, ◌&&◌, ◌||◌, not, List, [], ◌∷◌}
 use Rattle.std.proofs.Common.{◌++◌, length, Option, Some, None, All, Contains, refl, sym, ◌∙◌, ap}
-use Rattle.std.proofs.Common.{subst, true≢false, if◌then◌else◌}
+use Rattle.std.proofs.Common.{subst, true≢false, if◌then◌else◌, inl, inr}
 use Rattle.std.specs.List.{filter, list_all, list_any}
 use Rattle.std.specs.Option.{option_or, unwrap_or}
 use Rattle.std.proofs.Math.Bool.{or-true}
-use Rattle.std.proofs.lemmas.Bool.{and_from}
+use Rattle.std.proofs.lemmas.Bool.{and_from, cases_Bool}
 use Rattle.std.proofs.lemmas.List.Elements.{All-head, All-tail, All-weaker}
 use Rattle.std.proofs.lemmas.List.Folds.{list_any-append}
 use Rattle.mq_topic.specs.Levels.{levels}
 use Rattle.mq_topic.specs.Matching.{matches}
-use Rattle.mq_acl.specs.AccessLists.{AccessList, allow_by}
+use Rattle.mq_acl.specs.AccessLists.{AccessList, grant_by}
 use Rattle.mq_acl.specs.Access.{concerns, grants, is_deny}
 use Rattle.mq_acl.specs.Lines.{Read}
 use Rattle.mq_acl.specs.Mosquitto.{decision, known_user, row_covers}
+use Rattle.mq_acl.specs.Refused.{is_refused}
 use Rattle.mq_acl.specs.Rows.{AclRow, who_of}
 use Rattle.mq_acl.specs.RowsByOwner.{is_everyones, is_own}
 use Rattle.mq_acl.specs.declared.access.Direction.TheVariants.{Reading}
+use Rattle.mq_acl.specs.declared.rules.Rules.{Rules}
 use Rattle.mq_acl.specs.declared.rules.Rules.TheVariants.{Mosquitto}
 use Rattle.mq_witness.specs.Limits.{is_short}
 use Rattle.mq_witness.specs.declared.fault.LimitFault.{LimitFault}
@@ -56,21 +58,21 @@ all-among p xs (y ∷ ys) all among =
     (all-at p xs y all (All-head (Contains xs) y ys among))
     (all-among p xs ys all (All-tail (Contains xs) y ys among))
 
-pub none-moved : (client : List ℕ) (user : Option (List ℕ)) (row : AclRow)
+pub none-moved : (rules : Rules) (client : List ℕ) (user : Option (List ℕ)) (row : AclRow)
     (test : List ℕ → AclRow → Bool) (denies others grants_of more : List AclRow)
-    → denies ≡ others → grants_of ≡ more → PassesNone client user row test denies grants_of
-    → PassesNone client user row test others more
-none-moved client user row test denies others grants_of more d g h =
-    subst (PassesNone client user row test others) g
-    (subst (λ l. PassesNone client user row test l grants_of) d h)
+    → denies ≡ others → grants_of ≡ more → PassesNone rules client user row test denies grants_of
+    → PassesNone rules client user row test others more
+none-moved rules client user row test denies others grants_of more d g h =
+    subst (PassesNone rules client user row test others) g
+    (subst (λ l. PassesNone rules client user row test l grants_of) d h)
 
-pub passed-moved : (client : List ℕ) (user : Option (List ℕ)) (row : AclRow)
+pub passed-moved : (rules : Rules) (client : List ℕ) (user : Option (List ℕ)) (row : AclRow)
     (test : List ℕ → AclRow → Bool) (denies others grants_of more : List AclRow) (name : List ℕ)
-    → denies ≡ others → grants_of ≡ more → IsPassed client user row test denies grants_of name
-    → IsPassed client user row test others more name
-passed-moved client user row test denies others grants_of more name d g h =
-    subst (λ l. IsPassed client user row test others l name) g
-    (subst (λ l. IsPassed client user row test l grants_of name) d h)
+    → denies ≡ others → grants_of ≡ more → IsPassed rules client user row test denies grants_of name
+    → IsPassed rules client user row test others more name
+passed-moved rules client user row test denies others grants_of more name d g h =
+    subst (λ l. IsPassed rules client user row test others l name) g
+    (subst (λ l. IsPassed rules client user row test l grants_of name) d h)
 
 -- ## What decides
 
@@ -105,7 +107,7 @@ tested p q kind rows =
 -- the client may read it by its own rows, or by `pattern` rows where none of its own denies it
 pub mosquitto-is : (rows : List AclRow) (client : List ℕ) (user : Option (List ℕ)) (name : List ℕ)
     → let own = known_user user in let test = row_covers client own name in
-    allow_by Mosquitto rows client user name Reading
+    grant_by Mosquitto rows client user name Reading
     ≡ (passes test (its_own own (denies_in rows)) (its_own own (grants_in rows))
     || passes test (its_own own (denies_in rows) ++ patterns_in (denies_in rows))
     (patterns_in (grants_in rows)))
@@ -172,7 +174,7 @@ module _ (rows : List AclRow) (client : List ℕ) (user : Option (List ℕ)) (ow
       ∙ sym (list_any-append test (its_own own (denies_in rows)) more))
 
   allowed-is : (name : List ℕ) → concerns client own name row ≡ true
-      → allow_by Mosquitto rows client user name Reading
+      → grant_by Mosquitto rows client user name Reading
       ≡ (passes (concerns client own name) denying granting
       || passes (row_covers client own name) (denying ++ patterns_in (denies_in rows))
       (patterns_in (grants_in rows)))
@@ -186,33 +188,40 @@ module _ (rows : List AclRow) (client : List ℕ) (user : Option (List ℕ)) (ow
       ∙ (λ i. sym (by_own name here) i || sym (by_patterns name here) i)
 
   -- where neither lets the client read a topic, there is none
-  pub reads-none : PassesNone client own row (concerns client own) denying granting
-      → PassesNone client own row (row_covers client own)
+  pub reads-none : PassesNone Mosquitto client own row (concerns client own) denying granting
+      → PassesNone Mosquitto client own row (row_covers client own)
       (denying ++ patterns_in (denies_in rows)) (patterns_in (grants_in rows))
       → ReadsNone (list_by Mosquitto rows) client user filter_text
   reads-none first second = λ name valid match.
       let here : concerns client own name row ≡ true = matched name ∙ match in
-      allowed-is name here ∙ (λ i. first name valid here i || second name valid here i)
+      (elim (cases_Bool (is_refused Reading name)) [
+        | inl refused ↦ ap (λ b. not b && grant_by Mosquitto rows client user name Reading) refused
+        | inr taken ↦ ap (λ b. not b && grant_by Mosquitto rows client user name Reading) taken
+            ∙ allowed-is name here
+            ∙ (λ i. first name valid taken here i || second name valid taken here i)
+      ])
 
   -- a topic by its own rows
   pub reads-own : (name : List ℕ)
-      → IsPassed client own row (concerns client own) denying granting name
+      → IsPassed Mosquitto client own row (concerns client own) denying granting name
       → Reads (list_by Mosquitto rows) client user filter_text name
   reads-own name is = record {
     matched = sym (matched name) ∙ is.concerned;
-    may_read = allowed-is name is.concerned
+    may_read = ap (λ b. not b && grant_by Mosquitto rows client user name Reading) is.taken
+        ∙ allowed-is name is.concerned
         ∙ ap (λ b. b || passes (row_covers client own name)
         (denying ++ patterns_in (denies_in rows)) (patterns_in (grants_in rows))) is.passed;
   }
 
   -- and one by `pattern` rows
   pub reads-pattern : (name : List ℕ)
-      → IsPassed client own row (row_covers client own)
+      → IsPassed Mosquitto client own row (row_covers client own)
       (denying ++ patterns_in (denies_in rows)) (patterns_in (grants_in rows)) name
       → Reads (list_by Mosquitto rows) client user filter_text name
   reads-pattern name is = record {
     matched = sym (matched name) ∙ is.concerned;
-    may_read = allowed-is name is.concerned
+    may_read = ap (λ b. not b && grant_by Mosquitto rows client user name Reading) is.taken
+        ∙ allowed-is name is.concerned
         ∙ ap (λ b. passes (concerns client own name) denying granting || b) is.passed
         ∙ or-true (passes (concerns client own name) denying granting);
   }

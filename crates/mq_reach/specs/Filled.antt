@@ -4,8 +4,11 @@ use Rattle.std.specs.List.{list_all, list_any}
 use Rattle.mq_topic.specs.Texts.{is_name}
 use Rattle.mq_acl.specs.Access.{concerns}
 use Rattle.mq_acl.specs.Mosquitto.{filter_for, is_asked}
+use Rattle.mq_acl.specs.Refused.{refuses}
 use Rattle.mq_acl.specs.Rows.{AclRow, who_of}
 use Rattle.mq_acl.specs.RowsByOwner.{is_everyones}
+use Rattle.mq_acl.specs.declared.access.Direction.TheVariants.{Reading}
+use Rattle.mq_acl.specs.declared.rules.Rules.{Rules}
 use Rattle.mq_cover.specs.Remainders.{mark_passes}
 use Rattle.mq_witness.specs.Limits.{has_short_levels, is_short}
 use Rattle.mq_reach.specs.Reach.{is_fit}
@@ -33,17 +36,18 @@ pub record IsFilled (user : Option (List ℕ)) (row : AclRow) : Type 0 where
 abbrev pub passes : (AclRow → Bool) → (denying granting : List AclRow) → Bool
 passes test denying granting = not (list_any test denying) && list_any test granting
 
--- they let it read no topic that the row concerns
-abbrev pub PassesNone : List ℕ → Option (List ℕ) → AclRow → (test : List ℕ → AclRow → Bool)
-    → (denying granting : List AclRow) → Type 0
-PassesNone client user row test denying granting =
-    (name : List ℕ) → is_name name ≡ true → concerns client user name row ≡ true
-    → passes (test name) denying granting ≡ false
+-- of the topics that clients may read by these rules, they let it read none that the row concerns
+abbrev pub PassesNone : Rules → List ℕ → Option (List ℕ) → AclRow
+    → (test : List ℕ → AclRow → Bool) → (denying granting : List AclRow) → Type 0
+PassesNone rules client user row test denying granting =
+    (name : List ℕ) → is_name name ≡ true → refuses rules Reading name ≡ false
+    → concerns client user name row ≡ true → passes (test name) denying granting ≡ false
 
--- they let it read this one
-pub record IsPassed (client : List ℕ) (user : Option (List ℕ)) (row : AclRow)
+-- they let it read this one of them
+pub record IsPassed (rules : Rules) (client : List ℕ) (user : Option (List ℕ)) (row : AclRow)
     (test : List ℕ → AclRow → Bool) (denying granting : List AclRow) (name : List ℕ) : Type 0 where
   pub valid : is_name name ≡ true
+  pub taken : refuses rules Reading name ≡ false
   pub concerned : concerns client user name row ≡ true
   pub passed : passes (test name) denying granting ≡ true
 

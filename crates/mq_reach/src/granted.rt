@@ -29,10 +29,12 @@ pub(crate) fn asked_of(alloc: Global, rows: &[Row]) -> Result<Asked<'_>, ListFau
     Asked::of(alloc, Rules::Own, lists)
 }
 
-/// A topic that the row concerns, and some row that grants, and none that denies; or that there is none.
+/// A topic that the row concerns, and some row that grants, and none that denies; or that there is none, of those that
+/// clients may read by these rules (`mq_acl::refuses`).
 pub(crate) fn granted_topic<'x>(
     alloc: Global,
     asked: &Asked,
+    rules: Rules,
     client: &str,
     user: Option<&str>,
     row: &'x Row,
@@ -40,10 +42,10 @@ pub(crate) fn granted_topic<'x>(
     denying: &[&Row],
 ) -> Result<Option<TopicName>, LimitFault>
     requires denying { All (Contains asked.now.rows) (lent_rows denying.now) }
-    ensures none { IfOk result (λ found. IfNone found (PassesNone client.now
+    ensures none { IfOk result (λ found. IfNone found (PassesNone rules client.now
         (option_copied user.entry) (row_view row.now) (concerns client.now
         (option_copied user.entry)) (lent_rows denying.now) (lent_rows granting.now))) }
-    ensures some { IfOk result (λ found. IfSome found (IsPassed client.now
+    ensures some { IfOk result (λ found. IfSome found (IsPassed rules client.now
         (option_copied user.entry) (row_view row.now) (concerns client.now
         (option_copied user.entry)) (lent_rows denying.now) (lent_rows granting.now))) }
     ensures fault { IfErr result (λ fault. (grant : AclRow)
@@ -52,7 +54,7 @@ pub(crate) fn granted_topic<'x>(
 {
     for grant in granting {
         let must = [&*row, *grant];
-        if let Some(topic) = (&*asked).find_topic(alloc, &*client, user, &must, &*denying)? {
+        if let Some(topic) = (&*asked).find_topic(alloc, rules, &*client, user, &must, &*denying)? {
             return Ok(Some(topic));
         }
     }

@@ -6,6 +6,7 @@ ghost use Rattle.std.specs.Option.{option_copied};
 ghost use Rattle.mq_acl.specs.Mosquitto.{row_covers};
 ghost use Rattle.mq_acl.specs.Rows.{AclRow};
 ghost use Rattle.mq_acl.specs.Views.{row_view, row_views};
+ghost use Rattle.mq_acl.specs.declared.rules.Rules.TheVariants as spec_rules;
 ghost use Rattle.mq_cover.specs.Remainders.{mark_passes};
 ghost use Rattle.mq_witness.specs.Limits.{has_short_levels, is_short};
 ghost use Rattle.mq_witness.specs.Rows.{lent_rows};
@@ -15,7 +16,7 @@ ghost use Rattle.mq_reach.specs.Reach.{IsListFault};
 use crate::fault::ReachFault;
 use crate::filled::{Client, add_filled};
 use crate::granted::{asked_of, granted_topic};
-use mq_acl::Row;
+use mq_acl::{Row, Rules};
 use mq_topic::TopicName;
 use mq_witness::{Asked, ListFault};
 use std::alloc::{AllocError, Global};
@@ -69,11 +70,11 @@ pub(crate) fn pattern_topic(
     requires granting { list_all (λ row. has_short_levels row.filter) (lent_rows granting.now)
         ≡ true }
     ensures none { IfOk result (λ found. let user = option_copied client.entry.user in
-        IfNone found (PassesNone client.entry.id.now user (row_view row)
+        IfNone found (PassesNone spec_rules.Mosquitto client.entry.id.now user (row_view row)
         (row_covers client.entry.id.now user)
         (lent_rows own_denying.now ++ lent_rows denying.now) (lent_rows granting.now))) }
     ensures some { IfOk result (λ found. let user = option_copied client.entry.user in
-        IfSome found (IsPassed client.entry.id.now user (row_view row)
+        IfSome found (IsPassed spec_rules.Mosquitto client.entry.id.now user (row_view row)
         (row_covers client.entry.id.now user)
         (lent_rows own_denying.now ++ lent_rows denying.now) (lent_rows granting.now))) }
     ensures fault { (listed : List AclRow) → All (Contains listed) (lent_rows own_denying.now)
@@ -96,6 +97,7 @@ pub(crate) fn pattern_topic(
     let found = granted_topic(
         alloc,
         &asked,
+        Rules::Mosquitto,
         client.id,
         client.user,
         &row,

@@ -149,7 +149,17 @@ impl<'a> Reach<'a> {
             return Ok(None);
         }
         let denying = overlapping(alloc, &self.denying, user, &row)?;
-        let found = granted_topic(alloc, &self.asked, client, user, &row, &granting, &denying)?;
+        let rules = Rules::Own;
+        let found = granted_topic(
+            alloc,
+            &self.asked,
+            rules,
+            client,
+            user,
+            &row,
+            &granting,
+            &denying,
+        )?;
         Ok(found)
     }
 
@@ -171,11 +181,21 @@ impl<'a> Reach<'a> {
         ensures fault { IfErr result (IsReachFault (list_by spec_rules.Mosquitto self.now.rows)
             client.now (option_copied user.entry) filter.now) }
     {
-        let user = user_by(Rules::Mosquitto, user);
+        let rules = Rules::Mosquitto;
+        let user = user_by(rules, user);
         let row = row_of(alloc, user, filter)?;
         let granting = own_overlapping(alloc, &self.granting, user, &row)?;
         let denying = own_overlapping(alloc, &self.denying, user, &row)?;
-        let own = granted_topic(alloc, &self.asked, client, user, &row, &granting, &denying)?;
+        let own = granted_topic(
+            alloc,
+            &self.asked,
+            rules,
+            client,
+            user,
+            &row,
+            &granting,
+            &denying,
+        )?;
         if let Some(topic) = own {
             return Ok(Some(topic));
         }

@@ -15,8 +15,8 @@ use Rattle.std.proofs.lemmas.List.{length-map}
 use Rattle.mq_topic.proofs.ByteLemmas.{text_itself}
 use Rattle.mq_acl.specs.Access.{begins_with_dollar}
 use Rattle.mq_cover.specs.Names.{can_be_level, start_of, suits}
-use Rattle.mq_cover.specs.declared.start.Start.{Start}
-use Rattle.mq_cover.specs.declared.start.Start.TheVariants.{Plain, Dollar, Slash, Inside}
+use Rattle.mq_cover.specs.declared.start.Start.TheVariants.{Slash, Inside}
+use Rattle.mq_cover.proofs.NameLemmas.{suits_inside}
 use Rattle.mq_witness.specs.Literals.{is_literal_in}
 use Rattle.mq_witness.specs.Texts.{join_levels}
 use Rattle.mq_witness.proofs.NameLemmas.{joined_is_name, name_is}
@@ -96,15 +96,23 @@ module _ (named : List ℕ → Bool) (asks : Bool) (c d : List ℕ) (u v : Optio
         ∙ sym (map-append f (becomes front ls q) (flat_map (becomes front ls) qs))
 
   -- ---- a name with its levels moved is a name
-  suits_any : (s : Start) (ls : List (List ℕ)) → suits s (map f ls) ≡ suits s ls
-  suits_any s [] = refl
-  suits_any Plain (l ∷ ls) =
+  suits_in : (ls : List (List ℕ)) → suits Inside (map f ls) ≡ suits Inside ls
+  suits_in ls = suits_inside (map f ls) ∙ sym (suits_inside ls)
+
+  suits_behind : (slash : Bool) (ls : List (List ℕ))
+      → suits (cond slash Slash Inside) (map f ls) ≡ suits (cond slash Slash Inside) ls
+  suits_behind true [] = refl
+  suits_behind true (l ∷ ls) = suits_in ls
+  suits_behind false ls = suits_in ls
+
+  suits_any : (dollar : Bool) (ls : List (List ℕ))
+      → suits (start_of dollar) (map f ls) ≡ suits (start_of dollar) ls
+  suits_any true [] = refl
+  suits_any false [] = refl
+  suits_any false (l ∷ ls) =
       (λ i. not (m.dollar l i) && suits (cond (m.some l i) Slash Inside) (map f ls))
-      ∙ ap (λ b. not (begins_with_dollar l) && b)
-      (suits_any (cond (length l == 0) Slash Inside) ls)
-  suits_any Dollar (l ∷ ls) = (λ i. m.dollar l i && suits_any Inside ls i)
-  suits_any Slash (l ∷ ls) = ap (λ b. true && b) (suits_any Inside ls)
-  suits_any Inside (l ∷ ls) = ap (λ b. true && b) (suits_any Inside ls)
+      ∙ ap (λ b. not (begins_with_dollar l) && b) (suits_behind (length l == 0) ls)
+  suits_any true (l ∷ ls) = (λ i. m.dollar l i && suits_in ls i)
 
   pub name_moved : (name : List ℕ) → is_name name ≡ true → is_name (moved f name) ≡ true
   name_moved name h =
@@ -112,7 +120,7 @@ module _ (named : List ℕ → Bool) (asks : Bool) (c d : List ℕ) (u v : Optio
       joined_is_name (map f (levels name)) (begins_with_dollar name)
       (short_levels named asks c d u v f m (levels name) is.can)
       (subst (λ n. n ≤ 200) (sym (length-map (levels name) f)) is.few)
-      (suits_any (start_of (begins_with_dollar name)) (levels name)
+      (suits_any (begins_with_dollar name) (levels name)
       ∙ name_suits name (begins_with_dollar name) is.some refl)
 
   -- ---- new names

@@ -18,12 +18,12 @@ loop-grant-preserved c =
     let user = option_copied c.args.user in
     let row = row_view c.args.row.now in
     let denying = lent_rows c.args.denying.now in
-    let P : Bor Row → Type 0 = λ grant. FindsNoTopic client user (row ∷ row_view grant.now ∷ [])
+    let P : Bor Row → Type 0 = λ grant. FindsNoTopic c.args.rules client user (row ∷ row_view grant.now ∷ [])
     denying in
     All-more P c.args.granting.now c.loop-grant.grant-index c.grant-item.result
     c.loop-grant-test.true c.loop-grant.invariant
     (subst P c.grant-item.is
-    (none_at c.in_ok-topic.field-0 (FindsNoTopic client user
+    (none_at c.in_ok-topic.field-0 (FindsNoTopic c.args.rules client user
     (row ∷ row_view c.grant-item.result.now ∷ []) denying) c.in_default.is
     c.in_ok-topic.ensures.none))
 
@@ -33,9 +33,9 @@ returns-clause-none c =
     let user = option_copied c.args.user in
     let row = row_view c.args.row.now in
     let denying = lent_rows c.args.denying.now in
-    let P : AclRow → Type 0 = λ grant. FindsNoTopic client user (row ∷ grant ∷ []) denying in
+    let P : AclRow → Type 0 = λ grant. FindsNoTopic c.args.rules client user (row ∷ grant ∷ []) denying in
     let Q : Bor Row → Type 0 = λ grant. P (row_view grant.now) in
-    none-passes client user row denying (lent_rows c.args.granting.now)
+    none-passes c.args.rules client user row denying (lent_rows c.args.granting.now)
     (λ grant has. All-contains P (lent_rows c.args.granting.now) grant
     (All-map P (λ (g : Bor Row). row_view g.now) c.args.granting.now
     (subst (All Q) (take_all c.loop-grant.grant-index c.args.granting.now
@@ -48,10 +48,10 @@ returns-in-Some-clause-some c =
     let row = row_view c.args.row.now in
     let denying = lent_rows c.args.denying.now in
     let grant = c.grant-item.result in
-    one-passes client user row denying (lent_rows c.args.granting.now) (row_view grant.now)
+    one-passes c.args.rules client user row denying (lent_rows c.args.granting.now) (row_view grant.now)
     c.in-Some.topic
     (lent-at c.args.granting.now c.loop-grant.grant-index grant c.loop-grant-test.true
     c.grant-item.is)
     (some_at c.in_ok-topic.field-0 c.in-Some.topic
-    (IsTopic client user (row ∷ row_view grant.now ∷ []) denying) c.in-Some.is
+    (IsTopic c.args.rules client user (row ∷ row_view grant.now ∷ []) denying) c.in-Some.is
     c.in_ok-topic.ensures.some)

@@ -8,6 +8,6 @@ use Rattle.mq_reach.proofs.granted.granted_topic.Given as goal
 
 abbrev pub invariant-loop-grant : goal.invariant-loop-grant
 invariant-loop-grant l =
-    All (λ (grant : Bor Row). FindsNoTopic l.client (option_copied l.user)
+    All (λ (grant : Bor Row). FindsNoTopic l.rules l.client (option_copied l.user)
     (row_view l.row ∷ row_view grant.now ∷ []) (lent_rows l.denying))
     (take l.grant-index l.granting)

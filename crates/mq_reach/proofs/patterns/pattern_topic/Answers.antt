@@ -44,7 +44,7 @@ returns-clause-none c =
     let client = c.args.client.id.now in
     let user = option_copied c.args.client.user in
     none_then c.in_ok-found.found
-    (λ none name valid here.
+    (λ none name valid taken here.
     sym (filled-same (concerns client user name) (row_covers client user name)
     c.new-grants.result.items c.new-denies.result.items c.add_filled.new.all.items
     c.add_filled-2.new.all.items c.add_filled-3.new.all.items (lent_rows c.args.granting.now)
@@ -57,7 +57,7 @@ returns-clause-none c =
     ∙ ap row_views c.deref-2.ensures.value)
     (ap lent_rows c.deref-5.ensures.value ∙ c.in_ok-denying.ensures
     ∙ ap row_views c.deref-3.ensures.value))
-    ∙ none name valid here)
+    ∙ none name valid taken here)
     c.in_ok-found.ensures.none
 
 pub returns-clause-some : goal.returns-clause-some
@@ -67,6 +67,7 @@ returns-clause-some c =
     some_then c.in_ok-found.found
     (λ name is. record {
       valid = is.valid;
+      taken = is.taken;
       concerned = is.concerned;
       passed = sym (filled-same (concerns client user name) (row_covers client user name)
           c.new-grants.result.items c.new-denies.result.items c.add_filled.new.all.items

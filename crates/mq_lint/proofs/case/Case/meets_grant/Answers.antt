@@ -2,6 +2,7 @@ use Rattle.std.proofs.Common.{List, [], Bor, ◌∙◌, ap, not, subst, sym}
 use Rattle.mq_acl.specs.Views.{row_view}
 use Rattle.mq_acl.specs.declared.row.Row.{Row}
 use Rattle.mq_witness.specs.Rows.{lent_rows}
+use Rattle.mq_witness.specs.declared.topics.Topics.TheVariants as topics
 use Rattle.mq_lint.specs.Cases.{NoneMeets, permits}
 use Rattle.mq_lint.specs.Left.{left_of}
 use Rattle.mq_lint.proofs.LeftLemmas.{left_within}
@@ -13,10 +14,10 @@ use Rattle.mq_lint.proofs.case.Case.meets_grant.Goals as goal
 pub loop-other-preserved-then-is_deny : goal.loop-other-preserved-then-is_deny
 loop-other-preserved-then-is_deny c =
     let q = c.args.self.now.question in
-    all_more (NoneMet q.asked.now q.clients (row_view q.row.now) permits [])
+    all_more (NoneMet topics.All q.asked.now q.clients (row_view q.row.now) permits [])
     c.deref-other-items.result.now c.loop-other.other-index c.other-item.result
     c.loop-other-test.true c.other-item.is
-    (passed_met q.asked.now q.clients (row_view q.row.now) permits [] c.other-item.result
+    (passed_met topics.All q.asked.now q.clients (row_view q.row.now) permits [] c.other-item.result
     (ap not (sym c.is_deny.ensures ∙ c.if-is_deny.true)))
     c.loop-other.invariant
 
@@ -44,7 +45,7 @@ returns-then-branch-clause-some c = λ _.
 pub loop-other-preserved : goal.loop-other-preserved
 loop-other-preserved c =
     let q = c.args.self.now.question in
-    all_more (NoneMet q.asked.now q.clients (row_view q.row.now) permits [])
+    all_more (NoneMet topics.All q.asked.now q.clients (row_view q.row.now) permits [])
     c.deref-other-items.result.now c.loop-other.other-index c.other-item.result
     c.loop-other-test.true c.other-item.is
     (λ _. c.in_ok-stands_out_with.ensures.none c.if-branch.false)
@@ -53,7 +54,7 @@ loop-other-preserved c =
 pub returns-clause-none : goal.returns-clause-none
 returns-clause-none c = λ _.
     let q = c.args.self.now.question in
-    subst (λ (l : List (Bor Row)). NoneMeets q.asked.now q.clients (row_view q.row.now) permits []
+    subst (λ (l : List (Bor Row)). NoneMeets topics.All q.asked.now q.clients (row_view q.row.now) permits []
     (lent_rows l)) c.deref-other-items.ensures.value
-    (none_met q.asked.now q.clients (row_view q.row.now) permits [] c.deref-other-items.result.now
+    (none_met topics.All q.asked.now q.clients (row_view q.row.now) permits [] c.deref-other-items.result.now
     c.loop-other.other-index c.loop-other-test.false c.loop-other.invariant)

@@ -3,6 +3,7 @@ use Rattle.mq_acl.specs.Views.{row_view}
 use Rattle.mq_acl.specs.declared.row.Row.{Row}
 use Rattle.mq_acl.specs.declared.rules.Rules.{Rules}
 use Rattle.mq_witness.specs.Rows.{lent_rows}
+use Rattle.mq_witness.specs.declared.topics.Topics.TheVariants.{Open}
 use Rattle.mq_lint.specs.Cases.{Finds, FindsNone, NoneMeets, before, is_at, is_before, others_of}
 use Rattle.mq_lint.specs.Left.{left_of}
 use Rattle.mq_lint.proofs.LeftLemmas.{left_within}
@@ -13,11 +14,11 @@ use Rattle.mq_lint.proofs.case.Case.precedes.Goals as goal
 pub loop-other-preserved-then-not-is_at : goal.loop-other-preserved-then-not-is_at
 loop-other-preserved-then-not-is_at c =
     let q = c.args.self.now.question in
-    all_more (NoneMet q.asked.now q.clients (row_view q.row.now)
+    all_more (NoneMet (Open c.args.direction) q.asked.now q.clients (row_view q.row.now)
     (is_at q.rules c.args.direction c.args.place) (lent_rows c.in_ok-cover.cover.items))
     c.deref-other-items.result.now c.loop-other.other-index c.other-item.result
     c.loop-other-test.true c.other-item.is
-    (passed_met q.asked.now q.clients (row_view q.row.now)
+    (passed_met (Open c.args.direction) q.asked.now q.clients (row_view q.row.now)
     (is_at q.rules c.args.direction c.args.place) (lent_rows c.in_ok-cover.cover.items)
     c.other-item.result (sym c.is_at.ensures ∙ c.if-not-is_at.true))
     c.loop-other.invariant
@@ -57,10 +58,10 @@ returns-then-branch-clause-some c = λ _.
           c.other-item.is;
       is_of = ap (λ (rules : Rules). is_at rules c.args.direction c.args.place other)
           (sym q.can_ask.rules_are) ∙ (sym c.is_at.ensures ∙ c.if-not-is_at.false);
-      finds = subst (λ (rules : Rules). Finds q.asked.now q.clients (row ∷ (other ∷ []))
+      finds = subst (λ (rules : Rules). Finds (Open c.args.direction) q.asked.now q.clients (row ∷ (other ∷ []))
           (before rules c.args.direction c.args.place (others_of q.clients row (left_of q.asked.now c.args.self.now.called.now))))
           q.can_ask.rules_are
-          (subst (Finds q.asked.now q.clients (row ∷ (other ∷ [])))
+          (subst (Finds (Open c.args.direction) q.asked.now q.clients (row ∷ (other ∷ [])))
           (ap (λ (l : List (Bor Row)). lent_rows l) c.deref-in-loop-other.ensures.value
           ∙ lent_others t q.clients row (left_of q.asked.now c.args.self.now.called.now) c.args.self.now.others.items
           c.deref.result.now c.in_ok-cover.cover.items c.args.self.now.are_others
@@ -71,11 +72,11 @@ returns-then-branch-clause-some c = λ _.
 pub loop-other-preserved : goal.loop-other-preserved
 loop-other-preserved c =
     let q = c.args.self.now.question in
-    all_more (NoneMet q.asked.now q.clients (row_view q.row.now)
+    all_more (NoneMet (Open c.args.direction) q.asked.now q.clients (row_view q.row.now)
     (is_at q.rules c.args.direction c.args.place) (lent_rows c.in_ok-cover.cover.items))
     c.deref-other-items.result.now c.loop-other.other-index c.other-item.result
     c.loop-other-test.true c.other-item.is
-    (λ _. subst (λ (l : List (Bor Row)). FindsNone q.asked.now q.clients
+    (λ _. subst (λ (l : List (Bor Row)). FindsNone (Open c.args.direction) q.asked.now q.clients
     (row_view q.row.now ∷ (row_view c.other-item.result.now ∷ [])) (lent_rows l))
     c.deref-in-loop-other.ensures.value
     (c.in_ok-meets.ensures.none c.if-branch.false))
@@ -87,18 +88,18 @@ returns-clause-none c = λ _.
     let row = row_view q.row.now in
     let others = others_of q.clients row (left_of q.asked.now c.args.self.now.called.now) in
     let t = is_before q.rules c.args.direction c.args.place in
-    subst (λ (rules : Rules). NoneMeets q.asked.now q.clients row
+    subst (λ (rules : Rules). NoneMeets (Open c.args.direction) q.asked.now q.clients row
     (is_at rules c.args.direction c.args.place)
     (before rules c.args.direction c.args.place others) others) q.can_ask.rules_are
-    (subst (λ l. NoneMeets q.asked.now q.clients row (is_at q.rules c.args.direction c.args.place)
+    (subst (λ l. NoneMeets (Open c.args.direction) q.asked.now q.clients row (is_at q.rules c.args.direction c.args.place)
     l others)
     (lent_others t q.clients row (left_of q.asked.now c.args.self.now.called.now) c.args.self.now.others.items c.deref.result.now
     c.in_ok-cover.cover.items c.args.self.now.are_others c.deref.ensures.value
     c.in_ok-cover.ensures)
-    (met_others q.asked.now q.clients row (is_at q.rules c.args.direction c.args.place)
+    (met_others (Open c.args.direction) q.asked.now q.clients row (is_at q.rules c.args.direction c.args.place)
     (lent_rows c.in_ok-cover.cover.items) (left_of q.asked.now c.args.self.now.called.now)
     c.args.self.now.others.items
     c.deref-other-items.result.now c.args.self.now.are_others c.deref-other-items.ensures.value
-    (none_met q.asked.now q.clients row (is_at q.rules c.args.direction c.args.place)
+    (none_met (Open c.args.direction) q.asked.now q.clients row (is_at q.rules c.args.direction c.args.place)
     (lent_rows c.in_ok-cover.cover.items) c.deref-other-items.result.now c.loop-other.other-index
     c.loop-other-test.false c.loop-other.invariant)))

@@ -2,6 +2,7 @@ use Rattle.std.proofs.Common.{[], ◌∷◌, Contains}
 use Rattle.mq_acl.specs.Views.{row_view}
 use Rattle.mq_witness.specs.Rows.{lent_rows}
 use Rattle.mq_witness.specs.Ruled.{FindsNoneBy}
+use Rattle.mq_witness.specs.declared.topics.Topics.TheVariants.{Open}
 use Rattle.mq_otherwise.specs.Answers.{Differ}
 use Rattle.mq_otherwise.proofs.LoopLemmas.{all_lent, all_more, alone, none_is, one_lent}
 use Rattle.mq_otherwise.proofs.question.Question.find_alone.Goals as goal
@@ -23,7 +24,7 @@ find_by-requires-clause-differ c =
 pub loop-grant-preserved : goal.loop-grant-preserved
 loop-grant-preserved c =
     let q = c.args.self.now in
-    all_more (λ grant. FindsNoneBy q.dollar q.asked.now q.clients (row_view grant.now ∷ [])
+    all_more (λ grant. FindsNoneBy q.dollar (Open q.direction) q.asked.now q.clients (row_view grant.now ∷ [])
     (lent_rows c.args.cover.now)) c.args.grants.now c.loop-grant.grant-index
     c.grant-item.result c.loop-grant-test.true c.grant-item.is
     (none_is c.in_ok-found.field-0 _ c.in_default.is c.in_ok-found.ensures.none)
@@ -32,6 +33,6 @@ loop-grant-preserved c =
 pub returns-clause-none : goal.returns-clause-none
 returns-clause-none c =
     let q = c.args.self.now in
-    all_lent (λ grant. FindsNoneBy q.dollar q.asked.now q.clients (grant ∷ [])
+    all_lent (λ grant. FindsNoneBy q.dollar (Open q.direction) q.asked.now q.clients (grant ∷ [])
     (lent_rows c.args.cover.now)) c.args.grants.now c.loop-grant.grant-index
     c.loop-grant-test.false c.loop-grant.invariant

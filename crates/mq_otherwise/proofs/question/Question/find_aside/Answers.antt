@@ -35,5 +35,5 @@ returns-clause-none c =
     ∙ c.in_ok-cover.ensures ∙ (λ i. (c.requires.own_denies i
     ++ (c.requires.own_grants i ++ c.requires.denies i))
     ++ (c.requires.aside_denies i ++ c.requires.grants i)) in
-    carried (λ _ g o. IfNone c.in_ok-found.found (NoneAlone q.asked.now q.clients q.dollar g o))
+    carried (λ _ g o. IfNone c.in_ok-found.found (NoneAlone q.asked.now q.clients q.direction q.dollar g o))
     grants grants cover c.in_ok-found.ensures.none

@@ -39,5 +39,5 @@ returns-clause-none c =
     let cover = ap (λ (l : List (Bor Row)). lent_rows l) c.deref-3.ensures.value
     ∙ c.in_ok-cover.ensures ∙ (λ i. c.requires.own_denies i
     ++ (c.requires.own_grants i ++ c.requires.denies i)) in
-    carried (λ d g o. IfNone c.in_ok-found.found (NonePairs q.asked.now q.clients q.dollar d g o))
+    carried (λ d g o. IfNone c.in_ok-found.found (NonePairs q.asked.now q.clients q.direction q.dollar d g o))
     denies grants cover c.in_ok-found.ensures.none

@@ -36,4 +36,4 @@ returns-clause-none c =
     let cover = ap (λ (l : List (Bor Row)). lent_rows l) c.deref-3.ensures.value
     ∙ c.requires.own_denies in
     carried (λ d g o. IfOk c.find_pair.result (λ found. IfNone found
-    (NonePairs q.asked.now q.clients q.dollar d g o))) denies grants cover c.find_pair.ensures.none
+    (NonePairs q.asked.now q.clients q.direction q.dollar d g o))) denies grants cover c.find_pair.ensures.none

@@ -22,7 +22,7 @@ find_with-requires-clause-differ c =
 pub loop-deny-preserved : goal.loop-deny-preserved
 loop-deny-preserved c =
     let q = c.args.self.now in
-    all_more (λ deny. NoneWith q.asked.now q.clients q.dollar (row_view deny.now)
+    all_more (λ deny. NoneWith q.asked.now q.clients q.direction q.dollar (row_view deny.now)
     (lent_rows c.args.grants.now) (lent_rows c.args.cover.now)) c.args.denies.now
     c.loop-deny.deny-index c.deny-item.result c.loop-deny-test.true c.deny-item.is
     (none_is c.in_ok-found.field-0 _ c.in_default.is c.in_ok-found.ensures.none)
@@ -31,6 +31,6 @@ loop-deny-preserved c =
 pub returns-clause-none : goal.returns-clause-none
 returns-clause-none c =
     let q = c.args.self.now in
-    all_lent (λ deny. NoneWith q.asked.now q.clients q.dollar deny (lent_rows c.args.grants.now)
+    all_lent (λ deny. NoneWith q.asked.now q.clients q.direction q.dollar deny (lent_rows c.args.grants.now)
     (lent_rows c.args.cover.now)) c.args.denies.now c.loop-deny.deny-index
     c.loop-deny-test.false c.loop-deny.invariant

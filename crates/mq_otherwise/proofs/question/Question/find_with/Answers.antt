@@ -2,6 +2,7 @@ use Rattle.std.proofs.Common.{[], ◌∷◌, Contains}
 use Rattle.mq_acl.specs.Views.{row_view}
 use Rattle.mq_witness.specs.Rows.{lent_rows}
 use Rattle.mq_witness.specs.Ruled.{FindsNoneBy}
+use Rattle.mq_witness.specs.declared.topics.Topics.TheVariants.{Open}
 use Rattle.mq_otherwise.specs.Answers.{Differ}
 use Rattle.mq_otherwise.proofs.LoopLemmas.{all_lent, all_more, both, none_is, one_lent}
 use Rattle.mq_otherwise.proofs.question.Question.find_with.Goals as goal
@@ -25,7 +26,7 @@ find_by-requires-clause-differ c =
 pub loop-grant-preserved : goal.loop-grant-preserved
 loop-grant-preserved c =
     let q = c.args.self.now in
-    all_more (λ grant. FindsNoneBy q.dollar q.asked.now q.clients
+    all_more (λ grant. FindsNoneBy q.dollar (Open q.direction) q.asked.now q.clients
     (row_view c.args.deny.now ∷ (row_view grant.now ∷ [])) (lent_rows c.args.cover.now))
     c.args.grants.now c.loop-grant.grant-index c.grant-item.result c.loop-grant-test.true
     c.grant-item.is
@@ -35,6 +36,6 @@ loop-grant-preserved c =
 pub returns-clause-none : goal.returns-clause-none
 returns-clause-none c =
     let q = c.args.self.now in
-    all_lent (λ grant. FindsNoneBy q.dollar q.asked.now q.clients
+    all_lent (λ grant. FindsNoneBy q.dollar (Open q.direction) q.asked.now q.clients
     (row_view c.args.deny.now ∷ (grant ∷ [])) (lent_rows c.args.cover.now)) c.args.grants.now
     c.loop-grant.grant-index c.loop-grant-test.false c.loop-grant.invariant

@@ -76,10 +76,10 @@ returns-in-Some-clause-some c =
     c.self.invariant.denies_grouped client name here)
     (λ name here. c.in_ok-granting.ensures.concerns (grants_in rows)
     c.self.invariant.grants_grouped client name here) topic
-    (passed-moved client own row (concerns client own) (lent_rows c.deref-2.result.now) denying
+    (passed-moved Mosquitto client own row (concerns client own) (lent_rows c.deref-2.result.now) denying
     (lent_rows c.deref.result.now) granting topic
     (ap lent_rows c.deref-2.ensures.value) (ap lent_rows c.deref.ensures.value)
-    (some_at c.in_ok-own.own topic (IsPassed client own row (concerns client own)
+    (some_at c.in_ok-own.own topic (IsPassed Mosquitto client own row (concerns client own)
     (lent_rows c.deref-2.result.now) (lent_rows c.deref.result.now)) c.in-Some.is
     c.in_ok-own.ensures.some)))
 
@@ -133,13 +133,13 @@ returns-clause-none c =
     c.self.invariant.denies_grouped client name here)
     (λ name here. c.in_ok-granting.ensures.concerns (grants_in rows)
     c.self.invariant.grants_grouped client name here)
-    (none-moved client own row (concerns client own) (lent_rows c.deref-2.result.now) denying
+    (none-moved Mosquitto client own row (concerns client own) (lent_rows c.deref-2.result.now) denying
     (lent_rows c.deref.result.now) granting
     (ap lent_rows c.deref-2.ensures.value) (ap lent_rows c.deref.ensures.value)
-    (none_at c.in_ok-own.own (PassesNone client own row (concerns client own)
+    (none_at c.in_ok-own.own (PassesNone Mosquitto client own row (concerns client own)
     (lent_rows c.deref-2.result.now) (lent_rows c.deref.result.now)) c.in_default.is
     c.in_ok-own.ensures.none))
-    (none-moved client own row (row_covers client own)
+    (none-moved Mosquitto client own row (row_covers client own)
     (lent_rows c.deref-3.result.now ++ lent_rows c.everyone-deny.result.now)
     (denying ++ patterns_in (denies_in rows)) (lent_rows c.everyone-grant.result.now)
     (patterns_in (grants_in rows))
@@ -169,7 +169,7 @@ returns-clause-some c =
     c.self.invariant.denies_grouped client name here)
     (λ name here. c.in_ok-granting.ensures.concerns (grants_in rows)
     c.self.invariant.grants_grouped client name here) topic
-    (passed-moved client own row (row_covers client own)
+    (passed-moved Mosquitto client own row (row_covers client own)
     (lent_rows c.deref-3.result.now ++ lent_rows c.everyone-deny.result.now)
     (denying ++ patterns_in (denies_in rows)) (lent_rows c.everyone-grant.result.now)
     (patterns_in (grants_in rows)) topic

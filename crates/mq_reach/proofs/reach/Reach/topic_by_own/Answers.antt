@@ -1,4 +1,4 @@
-use Rattle.std.proofs.Common.{◌≡◌, ◌∙◌, ◌&&◌, not, true, [], List, ap, sym, subst}
+use Rattle.std.proofs.Common.{◌≡◌, ◌∙◌, ◌&&◌, not, true, [], List, ap, refl, sym, subst}
 use Rattle.std.proofs.Common.{arith, All, Contains}
 use Rattle.std.specs.List.{filter, list_any}
 use Rattle.std.specs.Option.{option_copied}
@@ -90,7 +90,7 @@ returns-clause-none c =
     ∙ c.in_ok-denying.ensures.concerns denied c.self.invariant.denies_grouped client name here)
     (ap (λ l. list_any C (lent_rows l)) c.deref.ensures.value
     ∙ c.in_ok-granting.ensures.concerns granted c.self.invariant.grants_grouped client name here))
-    ∙ none name valid here))
+    ∙ none name valid refl here))
     c.in_ok-found.ensures.none
 
 pub returns-clause-some : goal.returns-clause-some
