@@ -21,6 +21,7 @@ use Rattle.mq_differences.specs.Reasons.{reason_of}
 use Rattle.mq_differences.specs.declared.class.Class.{Class}
 use Rattle.mq_differences.specs.declared.class.Class.TheVariants as classes
 use Rattle.mq_differences.specs.declared.difference.Difference.{Difference}
+use Rattle.mq_differences.proofs.DeciderLemmas.{allowed_open}
 use Rattle.mq_differences.proofs.FirstLemmas.{first_place}
 use Rattle.mq_who.specs.Who.{IsListing, is_listed_in, is_member}
 use Rattle.mq_who.proofs.ExtentLemmas.{any_weaker, direction_is}
@@ -98,7 +99,9 @@ no_other rules rows wanted access only all l none direction client topic user w 
     (λ e. let some = any_weaker (is_listed_in rules rows direction client user topic)
     (is_shown access only)
     (λ d t. shown_listed rules rows access only direction client user topic d w o t) all
-    (l.lists direction client topic user c u q v (rw (a, e) refl)) in
+    (l.lists direction client topic user c u q v
+    (λ i. not (allowed_open rules (row_views rows) client user topic direction e i) && a i && e i))
+    in
     let bad : false ≡ true = sym none ∙ some in cc)
 
 -- and where one is, it may

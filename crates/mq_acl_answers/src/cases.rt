@@ -1,4 +1,7 @@
 //! Where mosquitto decides otherwise, in words.
+ghost use Rattle.std.specs.Prelude.{◌≡◌};
+ghost use Rattle.mq_acl_answers.specs.Notes.{may_word};
+
 use mq_acl::Direction;
 use mq_acl_args::Client;
 use mq_acl_print::access_word;
@@ -50,12 +53,22 @@ fn add_client(notes: &mut String, client: Client<'_>) -> Result<(), AllocError> 
     }
 }
 
+// Where the broker refuses it by itself, no list decides otherwise.
+fn may_word(reason: Reason) -> &'static str
+    ensures { result.now ≡ may_word reason }
+{
+    match reason {
+        Reason::Grant(_) => "may",
+        Reason::Deny(_) | Reason::NoGrant | Reason::Broker => "may not",
+    }
+}
+
 fn add_decision(notes: &mut String, case: &Case<'_>) -> Result<(), AllocError> {
+    let may = may_word(case.mosquitto);
     let (verb, topic) = (access_word(case.direction), case.topic);
-    match case.mosquitto {
-        Reason::Grant(line) => writeln!(notes, "may {verb} {topic} by line {line}"),
-        Reason::Deny(line) => writeln!(notes, "may not {verb} {topic} by line {line}"),
-        Reason::NoGrant => writeln!(notes, "may not {verb} {topic}"),
+    match case.mosquitto.line() {
+        Some(line) => writeln!(notes, "{may} {verb} {topic} by line {line}"),
+        None => writeln!(notes, "{may} {verb} {topic}"),
     }
 }
 

@@ -1,6 +1,9 @@
 //! What is said beside an answer: of whom it isn't.
-ghost use Rattle.std.specs.Prelude.{◌≡◌, OnOk};
-ghost use Rattle.mq_acl.specs.declared.rules.Rules.TheVariants.{Own};
+ghost use Rattle.std.specs.Prelude.{◌≡◌, ◌++◌, ◌&&◌, OnOk, string_bytes};
+ghost use Rattle.mq_acl.specs.Views.{row_views};
+ghost use Rattle.mq_acl.specs.declared.rules.Rules.TheVariants.{Own, Mosquitto};
+ghost use Rattle.mq_witness.specs.Ruled.{has_patterns};
+ghost use Rattle.mq_acl_answers.specs.Notes.{by_mosquitto, who_limit};
 
 use mq_acl::{Row, Rules};
 use mq_witness::{has_pattern, is_pattern};
@@ -24,7 +27,9 @@ fn add_pattern_lines(notes: &mut String, rows: &[Row]) -> Result<(), AllocError>
 }
 
 /// Whether by mosquitto's rules an answer about these rows is not about all client ids and user names.
-pub(crate) fn is_limited(rules: Rules, rows: &[Row]) -> bool {
+pub(crate) fn is_limited(rules: Rules, rows: &[Row]) -> bool
+    ensures { result ≡ by_mosquitto rules && has_patterns (row_views rows.now) }
+{
     rules == Rules::Mosquitto && has_pattern(rows)
 }
 
@@ -67,7 +72,9 @@ pub(crate) fn add_limits(
 
 /// Adds that by mosquitto's rules it isn't known of all client ids and user names who may.
 pub fn add_who_limit(notes: &mut String, rules: Rules) -> Result<(), AllocError>
-    ensures { OnOk result (rules ≡ Own → notes.new ≡ notes.old) }
+    ensures own { OnOk result (rules ≡ Own → notes.new ≡ notes.old) }
+    ensures mosquitto { OnOk result (rules ≡ Mosquitto
+        → string_bytes notes.new ≡ string_bytes notes.old ++ who_limit) }
 {
     match rules {
         Rules::Own => Ok(()),

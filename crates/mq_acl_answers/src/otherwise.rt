@@ -1,10 +1,12 @@
 //! What is noted beside an answer by our own rules: where mosquitto decides otherwise.
 ghost use Rattle.std.specs.Prelude.{◌≡◌, ◌≢◌, Ok, IfNone, IfOk, IfSome, OnOk, true, false};
+ghost use Rattle.std.specs.List.{list_any};
 ghost use Rattle.mq_acl.specs.Rows.{rows_by};
 ghost use Rattle.mq_acl.specs.Views.{row_views};
+ghost use Rattle.mq_acl.specs.declared.access.Direction as spec_direction;
 ghost use Rattle.mq_acl.specs.declared.rules.Rules.TheVariants.{Own, Mosquitto};
 ghost use Rattle.mq_witness.specs.Ruled.{has_patterns};
-ghost use Rattle.mq_otherwise.specs.Answers.{DecideAllSame};
+ghost use Rattle.mq_otherwise.specs.Answers.{DecideAllSame, RefuseSame, is_in_vain};
 ghost use Rattle.mq_acl_answers.specs.Notes.{AllowsSame, IsQuiet};
 
 use crate::cases::{add_cases, add_unknown};
@@ -12,9 +14,9 @@ use crate::failure::Failure;
 use crate::list::rows_in;
 use mq_acl::{AclKind, Row, Rules, read_rows_by};
 use mq_acl_args::Options;
-use mq_acl_print::ListText;
+use mq_acl_print::{ListText, refused_words};
 use mq_lint::same_row;
-use mq_otherwise::{OtherwiseFault, decided_otherwise};
+use mq_otherwise::{OtherwiseFault, decided_otherwise, granted_in_vain};
 use mq_witness::has_pattern;
 use std::alloc::{AllocError, Global};
 
@@ -84,6 +86,20 @@ fn is_read_alike(
     Ok(false)
 }
 
+// Whether no row grants what mosquitto refuses by itself; notes the first that does.
+fn is_refused_alike(notes: &mut String, file: &str, rows: &[Row]) -> Result<bool, AllocError>
+    ensures alike { IfOk result (λ alike. alike ≡ true → RefuseSame (row_views rows.now)) }
+    ensures quiet { OnOk result (((direction : spec_direction.Direction)
+        → list_any (is_in_vain direction) (row_views rows.now) ≡ false) → notes.new ≡ notes.old) }
+{
+    let Some(found) = granted_in_vain(rows) else {
+        return Ok(true);
+    };
+    let (line, words) = (found.line, refused_words(found.direction));
+    writeln!(notes, "{file}:{line}: {words}")?;
+    Ok(false)
+}
+
 // Whether mosquitto's rules allow the same by these rows as our own; notes where they don't.
 fn is_decided_alike(
     alloc: Global,
@@ -123,6 +139,7 @@ pub fn add_otherwise<'a>(
 ) -> Result<bool, Failure<'a>>
     ensures same { IfOk result (λ same. same ≡ true → AllowsSame list.entry.text.now) }
     ensures unasked { IfOk result (λ same. options.noted ≡ false → same ≡ false) }
+    ensures mosquitto { OnOk result (options.rules ≡ Mosquitto → notes.new ≡ notes.old) }
     ensures quiet { OnOk result (IsQuiet options.noted list.entry.text.now
         → notes.new ≡ notes.old) }
 {
@@ -133,7 +150,9 @@ pub fn add_otherwise<'a>(
     if !is_read_alike(alloc, notes, list, &rows)? {
         return Ok(false);
     }
-    Ok(is_decided_alike(alloc, notes, list.file, &rows, options.steps)?)
+    let refused_alike = is_refused_alike(notes, list.file, &rows)?;
+    let decided_alike = is_decided_alike(alloc, notes, list.file, &rows, options.steps)?;
+    Ok(refused_alike && decided_alike)
 }
 
 /// Notes it of each of two lists, which may be the same.

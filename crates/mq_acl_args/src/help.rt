@@ -122,7 +122,8 @@ With --json one object is about reading and one about writing, each with
   access   read or write
   allowed  true or false
   deny     the first line that denies it, with file, line and text; or null
-  grant    the first line that grants it, or null";
+  grant    the first line that grants it, or null
+  refused  true, and only there where mosquitto refuses it whatever the list says";
 
 pub(crate) const LINT_ABOUT: &str = "Lists lines that are faulty, odd or without effect";
 
@@ -236,7 +237,10 @@ With --json each is an object with
            which of client, user and the levels of the topic stand for others
   topic    the topic
   user     its user name, or null
-and behind them one for each user whom a line names and nothing is asked about
+and behind them one for each direction in which FILTER names topics that
+mosquitto refuses whatever the list says
+  refused    read or write
+and one for each user whom a line names and nothing is asked about
   not_asked  the user name
 With --json and --script each has too
   publishes  how many publishes of the script it is about at most
@@ -280,7 +284,7 @@ With --json each line of EXPECTED that says something is an object with
   file, line, text  the line
   list              the list that it is tested of, or null
   holds             true or false
-  kind              holds, fails, differs, none may, unnamed, unasked,
+  kind              holds, fails, differs, none may, unnamed, unasked, refused,
                     not asked, fault, long level, part of a level or no list
   words             why it doesn't hold, or null
   access, client, user, topic, placeholders

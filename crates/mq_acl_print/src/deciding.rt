@@ -7,7 +7,7 @@ use std::alloc::{AllocError, Global};
 pub struct Side<'a> {
     /// The file, with the number of the line that decides.
     pub place: String,
-    /// The line, or that none allows it.
+    /// The line, or that none allows it, or that the broker refuses it by itself.
     pub words: &'a str,
     /// Whether it is a line.
     pub is_line: bool,
@@ -36,6 +36,14 @@ impl Side<'_> {
     }
 }
 
+// That no line decides, in words.
+fn undecided_words(reason: Reason) -> &'static str {
+    match reason {
+        Reason::Broker => "mosquitto refuses it, whatever the list says",
+        _ => "no line allows it",
+    }
+}
+
 /// What decides, in words.
 pub fn decision<'a>(
     alloc: Global,
@@ -51,7 +59,7 @@ pub fn decision<'a>(
         }),
         None => Ok(Side {
             place: String::from_str(alloc, file)?,
-            words: "no line allows it",
+            words: undecided_words(reason),
             is_line: false,
         }),
     }

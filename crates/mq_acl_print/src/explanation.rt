@@ -4,15 +4,32 @@ use crate::escape::{Escape, shown_lines};
 use crate::json::{Datum, add_object};
 use crate::lines::add_line;
 use crate::list::ListText;
+use crate::refused::refused_words;
+use crate::words::access_word;
+use mq_acl::Direction;
 use mq_differences::{Reason, Verdict};
 use std::alloc::{AllocError, Global};
+
+// Adds the line that would allow it, if there is one.
+fn add_grant(
+    text: &mut String,
+    list: ListText<'_, '_>,
+    grant: Option<u64>,
+) -> Result<(), AllocError> {
+    let Some(line) = grant else {
+        return Ok(());
+    };
+    text.push_str("    would be allowed by ")?;
+    add_line(text, list, line)
+}
 
 fn add_words(
     text: &mut String,
     list: ListText<'_, '_>,
-    verb: &str,
+    direction: Direction,
     verdict: Verdict,
 ) -> Result<(), AllocError> {
+    let verb = access_word(direction);
     let may = if verdict.is_allowed() {
         "may"
     } else {
@@ -23,11 +40,11 @@ fn add_words(
         Reason::Grant(line) => add_line(text, list, line),
         Reason::Deny(line) => {
             add_line(text, list, line)?;
-            let Some(grant) = verdict.grant else {
-                return Ok(());
-            };
-            text.push_str("    would be allowed by ")?;
-            add_line(text, list, grant)
+            add_grant(text, list, verdict.grant)
+        }
+        Reason::Broker => {
+            writeln!(text, "{}", refused_words(direction))?;
+            add_grant(text, list, verdict.grant)
         }
         Reason::NoGrant => text.push_str("no line allows it\n"),
     }
@@ -37,23 +54,23 @@ fn add_json<'a>(
     alloc: Global,
     text: &mut String,
     list: ListText<'a, 'a>,
-    verb: &'a str,
+    direction: Direction,
     verdict: Verdict,
 ) -> Result<(), AllocError> {
     let deny = match verdict.reason {
         Reason::Deny(line) => Some(line),
         _ => None,
     };
-    add_object(
-        alloc,
-        text,
-        &[
-            ("access", Datum::Text(verb)),
-            ("allowed", Datum::Flag(verdict.is_allowed())),
-            ("deny", Datum::LineIf(list.line_if(deny))),
-            ("grant", Datum::LineIf(list.line_if(verdict.grant))),
-        ],
-    )
+    let mut data = vec![in alloc;
+        ("access", Datum::Text(access_word(direction))),
+        ("allowed", Datum::Flag(verdict.is_allowed())),
+        ("deny", Datum::LineIf(list.line_if(deny))),
+        ("grant", Datum::LineIf(list.line_if(verdict.grant))),
+    ]?;
+    if verdict.reason == Reason::Broker {
+        data.push(("refused", Datum::Flag(true)))?;
+    }
+    add_object(alloc, text, &data)
 }
 
 /// What is asked of a list: whether this client may read and write this topic.
@@ -85,12 +102,12 @@ pub fn explanation_text(
 ) -> Result<String, AllocError> {
     let mut text = String::new(alloc);
     if json {
-        add_json(alloc, &mut text, list, "read", reading)?;
-        add_json(alloc, &mut text, list, "write", writing)?;
+        add_json(alloc, &mut text, list, Direction::Reading, reading)?;
+        add_json(alloc, &mut text, list, Direction::Writing, writing)?;
         return Ok(text);
     }
     add_asked(&mut text, asked)?;
-    add_words(&mut text, list, "read", reading)?;
-    add_words(&mut text, list, "write", writing)?;
+    add_words(&mut text, list, Direction::Reading, reading)?;
+    add_words(&mut text, list, Direction::Writing, writing)?;
     shown_lines(alloc, text.as_str(), Escape::Words)
 }

@@ -53,6 +53,15 @@ impl Drop for PermissionRow<'_> {
     }
 }
 
+/// What is asked about.
+#[derive(Clone, Copy, Drop)]
+pub(crate) struct AskedOf {
+    /// Whether it is several topics.
+    pub(crate) several: bool,
+    /// Whether the broker refuses some of them by itself.
+    pub(crate) refused: bool,
+}
+
 // The topic, as an example if the line decides about several that are asked about.
 fn topic_words(
     alloc: Global,
@@ -99,15 +108,15 @@ fn denial_rows<'a>(
 fn row_of<'a>(
     alloc: Global,
     list: Lines<'a, 'a, 'a>,
-    several: bool,
+    asked: AskedOf,
     granted: &'a Difference,
     refused: &[&'a Difference],
 ) -> Result<PermissionRow<'a>, AllocError> {
     let side = decision(alloc, list, granted.old_reason)?;
-    let topic = if refused.is_empty() {
+    let topic = if refused.is_empty() && !asked.refused {
         String::from_str(alloc, "every topic")?
     } else {
-        topic_words(alloc, several, &side, granted)?
+        topic_words(alloc, asked.several, &side, granted)?
     };
     Ok(PermissionRow {
         all: vec![in alloc; granted]?,
@@ -118,7 +127,7 @@ fn row_of<'a>(
         },
         topic,
         side,
-        denials: denial_rows(alloc, list, several, refused)?,
+        denials: denial_rows(alloc, list, asked.several, refused)?,
     })
 }
 
@@ -161,17 +170,16 @@ impl<'a> PermissionRows<'a> {
         }
     }
 
-    /// Adds what a line allows, with what isn't allowed of the same class and direction, where
-    /// several topics are asked about, or one.
+    /// Adds what a line allows, with what isn't allowed of the same class and direction.
     pub(crate) fn add(
         &mut self,
         alloc: Global,
         list: Lines<'a, 'a, 'a>,
-        several: bool,
+        asked: AskedOf,
         granted: &'a Difference,
         refused: &[&'a Difference],
     ) -> Result<(), AllocError> {
-        let row = row_of(alloc, list, several, granted, refused)?;
+        let row = row_of(alloc, list, asked, granted, refused)?;
         let key = key_of(alloc, &row)?;
         let place = self.places.get(key.as_str()).copied();
         if let Some(place) = place {

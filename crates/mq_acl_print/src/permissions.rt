@@ -4,9 +4,10 @@ use crate::escape::{Escape, shown_lines};
 use crate::json::{Datum, Exception, add_object};
 use crate::list::{Lines, ListText, lines_of};
 use crate::not_asked::{add_not_asked, add_not_asked_json};
-use crate::permission_rows::{PermissionRow, PermissionRows};
+use crate::permission_rows::{AskedOf, PermissionRow, PermissionRows};
 use crate::published::{ScriptTraffic, add_counts, add_pattern, publishes_text};
 use crate::refusals::Refusals;
+use crate::refused::{add_refused, add_refused_json};
 use crate::table::{add_cell, widened};
 use crate::who::add_who;
 use crate::words::access_word;
@@ -55,8 +56,17 @@ pub struct Asked<'a> {
     pub of_others: bool,
     /// Users whom lines name, who aren't left out, and about whom nothing is asked.
     pub not_asked: &'a [&'a str],
+    /// The directions in which the broker refuses by itself topics that the filter names.
+    pub refused: &'a [Direction],
     /// What the publishes of a script are counted by, if they are.
     pub traffic: Option<ListTraffic<'a>>,
+}
+
+impl Asked<'_> {
+    // Whether the broker refuses by itself topics that the filter names.
+    fn refuses(self, direction: Direction) -> bool {
+        self.refused.iter().any(|one| *one == direction)
+    }
 }
 
 #[derive(Clone, Copy, Drop)]
@@ -86,13 +96,15 @@ fn exceptions<'a>(
 fn permission_data<'d>(
     alloc: Global,
     list: Lines<'d, 'd, 'd>,
+    asked: Asked<'_>,
     granted: &'d Difference,
     exceptions: &'d [Exception<'d>],
 ) -> Result<Vec<(&'static str, Datum<'d>)>, AllocError> {
+    let every = exceptions.is_empty() && !asked.refuses(granted.direction);
     Ok(vec![in alloc;
         ("access", Datum::Text(access_word(granted.direction))),
         ("client", Datum::Text(granted.client.as_str())),
-        ("every", Datum::Flag(exceptions.is_empty())),
+        ("every", Datum::Flag(every)),
         (
             "line",
             Datum::LineIf(list.line_if(granted.old_reason.line()))
@@ -113,7 +125,7 @@ fn add_json<'a>(
     refused: &[&'a Difference],
 ) -> Result<(), AllocError> {
     let exceptions = exceptions(alloc, list, refused)?;
-    let mut data = permission_data(alloc, list, granted, &exceptions)?;
+    let mut data = permission_data(alloc, list, asked, granted, &exceptions)?;
     if let Some(traffic) = asked.traffic {
         add_counts(&mut data, traffic.publishes(alloc, asked.filter, granted)?)?;
     }
@@ -132,6 +144,7 @@ fn json_lines<'a>(
         let refused = refusals.beside(alloc, one)?;
         add_json(alloc, &mut text, asked, list, one, &refused)?;
     }
+    add_refused_json(alloc, &mut text, asked.refused)?;
     add_not_asked_json(alloc, &mut text, asked.not_asked)?;
     Ok(text)
 }
@@ -147,7 +160,11 @@ fn rows_of<'a>(
     let mut rows = PermissionRows::new(alloc);
     for one in granted {
         let refused = refusals.beside(alloc, one)?;
-        rows.add(alloc, list, several, one, &refused)?;
+        let of = AskedOf {
+            several,
+            refused: asked.refuses(one.direction),
+        };
+        rows.add(alloc, list, of, one, &refused)?;
     }
     Ok(rows)
 }
@@ -282,6 +299,7 @@ fn text_of<'a>(
         rows.name_all(alloc)?;
         table(alloc, asked, rows.as_slice())?
     };
+    add_refused(&mut text, asked.refused)?;
     add_not_asked(&mut text, asked.not_asked)?;
     shown_lines(alloc, text.as_str(), Escape::Words)
 }

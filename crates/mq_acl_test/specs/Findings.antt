@@ -43,6 +43,8 @@ IsClaimed rules rows claim (found.Unnamed user) =
     IsJudgement rules rows claim (judged.Unnamed user)
 IsClaimed rules rows claim (found.Unasked user) =
     IsJudgement rules rows claim (judged.Unasked user)
+IsClaimed rules rows claim (found.Refused direction) =
+    IsJudgement rules rows claim (judged.Refused direction)
 IsClaimed rules rows claim (found.LeavesOut user) =
     IsJudgement rules rows claim (judged.LeavesOut user)
 IsClaimed rules rows claim found.LongLevel = has_short_levels claim.topics ≡ false

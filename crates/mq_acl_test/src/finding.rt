@@ -25,6 +25,9 @@ pub enum Finding<'a> {
     Unnamed(&'a str),
     /// By mosquitto's rules nothing is asked about this user, whose name holds `/`, `+` or `#`.
     Unasked(&'a str),
+    /// Each client is to be allowed topics that mosquitto refuses to let clients read or write in
+    /// this direction, whatever the list says.
+    Refused(Direction),
     /// It holds, for each client and topic that is asked about. But it is about this user too, whom
     /// a line of a list names, and about whom by mosquitto's rules nothing is asked, since its name
     /// holds `/`, `+` or `#`.

@@ -16,6 +16,7 @@ fn kind_name(finding: &Finding<'_>) -> &'static str {
         Finding::NoneMay(_) => "none may",
         Finding::Unnamed(_) => "unnamed",
         Finding::Unasked(_) => "unasked",
+        Finding::Refused(_) => "refused",
         Finding::LeavesOut(_) => "not asked",
         Finding::Fault(_) => "fault",
         Finding::LongLevel => "long level",

@@ -31,6 +31,7 @@ fn judged<'a>(judgement: Judgement<'a>) -> Finding<'a>
         Judgement::NoneMay(direction) => Finding::NoneMay(direction),
         Judgement::Unnamed(user) => Finding::Unnamed(user),
         Judgement::Unasked(user) => Finding::Unasked(user),
+        Judgement::Refused(direction) => Finding::Refused(direction),
         Judgement::LeavesOut(user) => Finding::LeavesOut(user),
     }
 }

@@ -1,7 +1,7 @@
 //! Why a line doesn't hold, where no client and topic show it.
 use crate::finding::Finding;
 use mq_acl::Direction;
-use mq_acl_print::NOT_ASKED;
+use mq_acl_print::{NOT_ASKED, refused_words};
 use mq_expect::ExpectationKind;
 use std::alloc::{AllocError, Global};
 
@@ -51,6 +51,7 @@ pub(crate) fn finding_words(
         }
         Finding::NoneMay(direction) => none_may(*direction),
         Finding::Unasked(_) => NOT_ASKED,
+        Finding::Refused(direction) => refused_words(*direction),
         Finding::Fault(kind) => fault_words(*kind),
         Finding::LongLevel => LONG_LEVEL,
         Finding::PartMark => PART_MARK,

@@ -10,6 +10,7 @@ use Rattle.mq_topic.specs.Texts.{is_name}
 use Rattle.mq_topic.proofs.ByteLemmas.{text_is}
 use Rattle.mq_acl.specs.Access.{grants}
 use Rattle.mq_acl.specs.AccessLists.{allow_by}
+use Rattle.mq_acl.specs.Refused.{refuses}
 use Rattle.mq_acl.specs.Rows.{AclRow}
 use Rattle.mq_acl.specs.Views.{row_views}
 use Rattle.mq_acl.specs.declared.access.Direction.{Direction}
@@ -37,7 +38,7 @@ use Rattle.mq_who.specs.Claims.{AllowsNone, AllowsOne, AreOthers, IsAgainst, Kee
 use Rattle.mq_who.specs.Claims.{is_asked_about, is_claimed, is_known, is_meant, is_meant_in, is_one}
 use Rattle.mq_who.specs.Who.{IsListing, IsReal, are_asked, is_asked, is_case, is_listed_in}
 use Rattle.mq_who.specs.Who.{is_member}
-use Rattle.mq_who.proofs.ExtentLemmas.{any_weaker, direction_is, direction_itself}
+use Rattle.mq_who.proofs.ExtentLemmas.{any_weaker, direction_is, direction_itself, open_if}
 
 -- ---- a client and its class
 or_off : (b : Bool) → (b || false) ≡ b
@@ -160,22 +161,26 @@ meant_claimed : (rules : Rules) (allows : Bool) (rows : List Row) (claim : Claim
 meant_claimed rules allows rows claim others d o r m =
     claimed_is rows claim others (user_of d.class) d.class d.direction o r.member ∙ m
 
--- where none of those of a direction is meant, the list allows none of it, or all
+-- where none of those of a direction is meant, the list allows none of it, or all that the broker doesn't
+-- refuse by itself
 none_meant : (rules : Rules) (allows : Bool) (rows : List Row) (claim : Claim)
     (others : List Named) (all : List Difference) (direction : Direction)
     → AreOthers rows claim others → IsListing rules allows rows claim.topics all
     → list_any (is_meant_in claim others direction) all ≡ false
     → (client topic : List ℕ) (user : Option (List ℕ)) → can_be_id client ≡ true
     → can_be_user user ≡ true → are_asked rules client user ≡ true → is_name topic ≡ true
+    → (not allows && refuses rules direction topic) ≡ false
     → is_claimed (row_views rows) claim user direction ≡ true
     → is_asked rules claim.topics client user topic ≡ true
     → allow_by rules (row_views rows) client user topic direction ≡ not allows
-none_meant rules allows rows claim others all direction o l none client topic user c u q v k a =
+none_meant rules allows rows claim others all direction o l none client topic user c u q v t k a =
     at allows (allow_by rules (row_views rows) client user topic direction)
     (λ e. let some = any_weaker (is_listed_in rules rows direction client user topic)
     (is_meant_in claim others direction)
-    (λ d t. meant_listed rules rows claim others direction client user topic d o k t) all
-    (l.lists direction client topic user c u q v (rw (a, e) refl)) in
+    (λ d s. meant_listed rules rows claim others direction client user topic d o k s) all
+    (l.lists direction client topic user c u q v
+    (λ i. not (open_if rules (row_views rows) allows client user topic direction t e i) && a i
+    && e i)) in
     let q : false ≡ true = sym none ∙ some in q)
   where
     at : (b r : Bool) → (same b r ≡ true → false ≡ true) → r ≡ not b
@@ -198,10 +203,10 @@ pub kept : (rules : Rules) (allows : Bool) (rows : List Row) (claim : Claim)
     (others : List Named) (all : List Difference) → AreOthers rows claim others
     → IsListing rules allows rows claim.topics all
     → find (is_meant claim others) all ≡ None → KeepsTo rules (not allows) rows claim
-kept rules allows rows claim others all o l e direction client topic user c u q v k a =
+kept rules allows rows claim others all o l e direction client topic user c u q v t k a =
     none_meant rules allows rows claim others all direction o l
     (none_in claim others direction all (found_none (is_meant claim others) all e)) client topic user
-    c u q v k a
+    c u q v t k a
 
 pub against : (rules : Rules) (allows : Bool) (rows : List Row) (claim : Claim)
     (others : List Named) (all : List Difference) (d : Difference) → AreOthers rows claim others
@@ -257,8 +262,9 @@ missed rules rows claim others all direction o l e =
     let parts = and_parts (grants direction claim.access)
     (not (list_any (is_meant_in claim others direction) all)) e in (
       parts.0,
-      none_meant rules true rows claim others all direction o l
-          (not-true (list_any (is_meant_in claim others direction) all) parts.1),
+      λ client topic user c u q v k a. none_meant rules true rows claim others all direction o l
+          (not-true (list_any (is_meant_in claim others direction) all) parts.1) client topic user
+          c u q v refl k a,
     )
 
 -- what a direction misses
@@ -289,6 +295,7 @@ every_judged rules rows claim (judged.Fails d) a e n =
 every_judged rules rows claim (judged.NoneMay direction) a e n = absurd n
 every_judged rules rows claim (judged.Unnamed user) a e n = absurd n
 every_judged rules rows claim (judged.Unasked user) a e n = absurd n
+every_judged rules rows claim (judged.Refused direction) a e n = absurd n
 every_judged rules rows claim (judged.LeavesOut user) a e n = absurd n
 
 pub never_judged : (rules : Rules) (rows : List Row) (claim : Claim) (j : Judgement)
@@ -301,6 +308,7 @@ never_judged rules rows claim (judged.Fails d) a e n =
 never_judged rules rows claim (judged.NoneMay direction) a e n = absurd n
 never_judged rules rows claim (judged.Unnamed user) a e n = absurd n
 never_judged rules rows claim (judged.Unasked user) a e n = absurd n
+never_judged rules rows claim (judged.Refused direction) a e n = absurd n
 never_judged rules rows claim (judged.LeavesOut user) a e n = absurd n
 
 pub one_judged : (rules : Rules) (rows : List Row) (claim : Claim) (j : Judgement)
@@ -313,4 +321,5 @@ one_judged rules rows claim (judged.NoneMay direction) a e n =
     subst (λ h. IsMissing rules rows claim h direction) (sym e) n
 one_judged rules rows claim (judged.Unnamed user) a e n = absurd n
 one_judged rules rows claim (judged.Unasked user) a e n = absurd n
+one_judged rules rows claim (judged.Refused direction) a e n = absurd n
 one_judged rules rows claim (judged.LeavesOut user) a e n = absurd n

@@ -6,6 +6,7 @@ use Rattle.std.proofs.lemmas.Bool.{and_parts, false_from_ne_true}
 use Rattle.std.proofs.lemmas.List.Folds.{list_any_at}
 use Rattle.mq_topic.proofs.ByteLemmas.{text_is}
 use Rattle.mq_acl.specs.AccessLists.{allow_by}
+use Rattle.mq_acl.specs.Refused.{refuses}
 use Rattle.mq_acl.specs.Views.{row_views}
 use Rattle.mq_acl.specs.Rows.{AclRow}
 use Rattle.mq_acl.specs.declared.access.Direction.{Direction}
@@ -19,6 +20,7 @@ use Rattle.mq_differences.specs.Reasons.{reason_of}
 use Rattle.mq_differences.specs.declared.class.Class.{Class}
 use Rattle.mq_differences.specs.declared.class.Class.TheVariants.{Anonymous, User, Others}
 use Rattle.mq_differences.specs.declared.difference.Difference.{Difference}
+use Rattle.mq_differences.proofs.DeciderLemmas.{allowed_open}
 use Rattle.mq_differences.proofs.FirstLemmas.{first_place}
 use Rattle.mq_who.specs.Extents.{AllAre, HasCase, IsExtent, extent_of, is_about}
 use Rattle.mq_who.specs.Who.{IsListing, is_asked, is_case, is_listed_in, is_member}
@@ -127,17 +129,29 @@ any_weaker p q step xs h =
     list_any_at q xs at.place at.item at.in_range
     (step (get_or xs at.place at.item) (at.here at.item))
 
+-- what is allowed the broker doesn't refuse by itself
+pub open_if : (rules : Rules) (rows : List AclRow) (allows : Bool) (client : List ℕ)
+    (user : Option (List ℕ)) (topic : List ℕ) (direction : Direction)
+    → (not allows && refuses rules direction topic) ≡ false
+    → same allows (allow_by rules rows client user topic direction) ≡ true
+    → refuses rules direction topic ≡ false
+open_if rules rows true client user topic direction t e =
+    allowed_open rules rows client user topic direction e
+open_if rules rows false client user topic direction t e = t
+
 -- where none is listed there is none
 none_is : (rules : Rules) (allows : Bool) (rows : List Row) (wanted : List ℕ) (class : Class)
     (direction : Direction) (all : List Difference) → IsListing rules allows rows wanted all
     → list_any (is_about class direction) all ≡ false
     → AllAre rules (not allows) rows wanted class direction
-none_is rules allows rows wanted class direction all l none client topic user c u q v m a =
+none_is rules allows rows wanted class direction all l none client topic user c u q v t m a =
     at allows (allow_by rules (row_views rows) client user topic direction)
     (λ e. let some = any_weaker (is_listed_in rules rows direction client user topic)
     (is_about class direction)
     (λ d k. about_listed rules rows class direction client user topic d m k) all
-    (l.lists direction client topic user c u q v (rw (a, e) refl)) in
+    (l.lists direction client topic user c u q v
+    (λ i. not (open_if rules (row_views rows) allows client user topic direction t e i) && a i
+    && e i)) in
     let q : false ≡ true = sym none ∙ some in q)
   where
     at : (b r : Bool) → (same b r ≡ true → false ≡ true) → r ≡ not b
@@ -165,8 +179,10 @@ extent_is rules rows wanted class direction granted refused false true g r e f =
   none_is rules true rows wanted class direction granted g e,
 )
 extent_is rules rows wanted class direction granted refused false false g r e f =
-    λ client topic user c u k v m. false_from_ne_true (is_asked rules wanted client user topic)
+    λ client topic user c u k v t m. false_from_ne_true (is_asked rules wanted client user topic)
     (λ a. let q : false ≡ true =
-    sym (none_is rules true rows wanted class direction granted g e client topic user c u k v m a)
-    ∙ none_is rules false rows wanted class direction refused r f client topic user c u k v m a
+    sym (none_is rules true rows wanted class direction granted g e client topic user c u k v refl
+    m a)
+    ∙ none_is rules false rows wanted class direction refused r f client topic user c u k v t m
+    a
     in cc)

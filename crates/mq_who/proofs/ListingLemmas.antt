@@ -29,7 +29,7 @@ use Rattle.mq_differences.specs.declared.fault.ComparisonFault.{ComparisonFault}
 use Rattle.mq_differences.specs.declared.fault.ComparisonFault.TheVariants as comparison
 use Rattle.mq_differences.specs.declared.fault.Side.TheVariants.{Old, New}
 use Rattle.mq_differences.specs.declared.reason.Reason.{Reason}
-use Rattle.mq_differences.specs.declared.reason.Reason.TheVariants.{Deny, Grant, NoGrant}
+use Rattle.mq_differences.specs.declared.reason.Reason.TheVariants.{Broker, Deny, Grant, NoGrant}
 use Rattle.mq_differences.specs.declared.way.Way.{Way}
 use Rattle.mq_differences.specs.declared.way.Way.TheVariants.{Gained, Lost}
 use Rattle.mq_who.specs.Faults.{IsWhoFault, fault_of}
@@ -48,6 +48,7 @@ reason_itself : (reason : Reason) → same_reason reason reason ≡ true
 reason_itself (Deny line) = eq-eqb line line refl
 reason_itself (Grant line) = eq-eqb line line refl
 reason_itself NoGrant = refl
+reason_itself Broker = refl
 
 same_decided : (allows : Bool) (reason : Reason) → same_reason (decides allows) reason ≡ true
     → is_decided reason ≡ true
@@ -55,6 +56,8 @@ same_decided allows (Deny line) e = refl
 same_decided allows (Grant line) e = refl
 same_decided true NoGrant e = absurd (let q : false ≡ true = e in cc)
 same_decided false NoGrant e = absurd (let q : false ≡ true = e in cc)
+same_decided true Broker e = absurd (let q : false ≡ true = e in cc)
+same_decided false Broker e = absurd (let q : false ≡ true = e in cc)
 
 -- what all have, those that are kept have
 all_kept : {X : Type 0} (P Q : X → Type 0) (f : X → Bool)
@@ -167,10 +170,10 @@ module _ (rules : Rules) (allows : Bool) (rows : List Row) (wanted : List ℕ) (
     known = All-filter kept (IsKnown a.asked) all a.known;
     stands = all_kept (differences.ShowsOthers rules rows made a.asked)
         (ShowsOthers rules allows rows wanted a.asked) kept
-        (λ d k s text other stands valid.
+        (λ d k s text other stands valid taken.
         (asked_of d (swap text other (string_bytes d.client))
         (swap_user text other (user_of d.class)) (swap_name text other d.topic) k
-        (s text other stands valid)).0) all a.stands;
+        (s text other stands valid taken)).0) all a.stands;
   }
 
   -- no two that are kept are alike

@@ -4,7 +4,7 @@ use Rattle.std.proofs.Common.{◌++◌, Option, Some, None, Contains, refl, ap, 
 use Rattle.std.specs.List.{list_all}
 use Rattle.std.specs.Option.{option_map}
 use Rattle.std.specs.Prelude.{find, if◌then◌else◌}
-use Rattle.std.proofs.lemmas.Bool.{and_parts}
+use Rattle.std.proofs.lemmas.Bool.{and_parts, not-true}
 use Rattle.std.proofs.lemmas.List.Elements.{Contains-append_right}
 use Rattle.std.proofs.lemmas.List.Folds.{list_any-append}
 use Rattle.mq_topic.specs.Levels.{levels}
@@ -12,6 +12,7 @@ use Rattle.mq_acl.specs.Access.{applies, covers, is_deny}
 use Rattle.mq_acl.specs.AccessLists.{allow_by, concerns_by, user_by}
 use Rattle.mq_acl.specs.Lines.{Access, is_pattern_level}
 use Rattle.mq_acl.specs.Mosquitto.{known_user, row_covers}
+use Rattle.mq_acl.specs.Refused.{refuses}
 use Rattle.mq_acl.specs.Rows.{AclRow, Everyone}
 use Rattle.mq_acl.specs.RowsByOwner.{is_everyones}
 use Rattle.mq_acl.specs.Views.{line_views, row_view, row_views}
@@ -34,7 +35,8 @@ use Rattle.mq_differences.specs.declared.reason.Reason.{Reason}
 use Rattle.mq_differences.specs.declared.reason.Reason.TheVariants as reasons
 use Rattle.mq_differences.specs.declared.way.Way.{Way}
 use Rattle.mq_differences.specs.declared.way.Way.TheVariants.{Gained, Lost}
-use Rattle.mq_differences.proofs.DeciderLemmas.{allowed_is}
+use Rattle.mq_differences.proofs.ChangeLemmas.{changed_open}
+use Rattle.mq_differences.proofs.DeciderLemmas.{allowed_is, open_reason}
 use Rattle.mq_who.specs.Who.{are_asked, asked_row, is_asked, is_case}
 use Rattle.mq_who.specs.Made.{access_of, is_decided}
 
@@ -104,10 +106,12 @@ change_by rules Lost old new client user topic direction = refl
 module _ (allows : Bool) (wanted : List ℕ) (row : Row)
     (view : row_view row ≡ asked_row (access_of allows) wanted) (line : row.line ≡ 0) where
   reason_is : (rules : Rules) (client : List ℕ) (user : Option (List ℕ)) (topic : List ℕ)
-      (direction : Direction) → reason_of rules (row ∷ []) client user topic direction
+      (direction : Direction) → refuses rules direction topic ≡ false
+      → reason_of rules (row ∷ []) client user topic direction
       ≡ says allows (is_asked rules wanted client user topic)
-  reason_is rules client user topic direction =
-      (λ i. reason_by (found (judged i)))
+  reason_is rules client user topic direction taken =
+      open_reason rules (row ∷ []) client user topic direction taken
+      ∙ (λ i. reason_by (found (judged i)))
       ∙ (λ i. reason_by (cond (met i) (Some row) None))
       ∙ at allows (is_asked rules wanted client user topic) view
     where
@@ -133,11 +137,12 @@ module _ (allows : Bool) (wanted : List ℕ) (row : Row)
           else reasons.Grant (line i))
 
   allow_is : (rules : Rules) (client : List ℕ) (user : Option (List ℕ)) (topic : List ℕ)
-      (direction : Direction) → allow_by rules (row_views (row ∷ [])) client user topic direction
+      (direction : Direction) → refuses rules direction topic ≡ false
+      → allow_by rules (row_views (row ∷ [])) client user topic direction
       ≡ is_grant (says allows (is_asked rules wanted client user topic))
-  allow_is rules client user topic direction =
+  allow_is rules client user topic direction taken =
       allowed_is rules (row ∷ []) client user topic direction
-      ∙ ap is_grant (reason_is rules client user topic direction)
+      ∙ ap is_grant (reason_is rules client user topic direction taken)
 
   -- ---- what changes
   -- what is asked changes, and the row decides
@@ -148,15 +153,20 @@ module _ (allows : Bool) (wanted : List ℕ) (row : Row)
       direction ≡ true)
       × (reason_of rules (row ∷ []) client user topic direction ≡ decides allows)
   case_changes rules rows client user topic direction e =
-      let known = and_parts (is_asked rules wanted client user topic)
-      (same allows (allow_by rules (row_views rows) client user topic direction)) e in (
+      let parts = and_parts (not (refuses rules direction topic)
+      && is_asked rules wanted client user topic)
+      (same allows (allow_by rules (row_views rows) client user topic direction)) e in
+      let known = and_parts (not (refuses rules direction topic))
+      (is_asked rules wanted client user topic) parts.0 in
+      let taken : refuses rules direction topic ≡ false =
+      not-true (refuses rules direction topic) known.0 in (
         change_by rules (way_of allows) (row_views rows) (row_views (row ∷ [])) client user topic
             direction
             ∙ at allows (allow_by rules (row_views rows) client user topic direction)
-            (allow_by rules (row_views (row ∷ [])) client user topic direction) known.1
-            (allow_is rules client user topic direction
-            ∙ ap (λ m. is_grant (says allows m)) known.0),
-        reason_is rules client user topic direction ∙ ap (says allows) known.0,
+            (allow_by rules (row_views (row ∷ [])) client user topic direction) parts.1
+            (allow_is rules client user topic direction taken
+            ∙ ap (λ m. is_grant (says allows m)) known.1),
+        reason_is rules client user topic direction taken ∙ ap (says allows) known.1,
       )
     where
       at : (s a b : Bool) → same s a ≡ true → b ≡ is_grant (says s true)
@@ -173,23 +183,26 @@ module _ (allows : Bool) (wanted : List ℕ) (row : Row)
       → (is_case rules allows (row_views rows) wanted client user topic direction ≡ true)
       × (way ≡ way_of allows)
   change_is rules rows way client user topic direction c d =
-      parts allows (is_asked rules wanted client user topic)
+      let taken = changed_open rules way (row_views rows) (row_views (row ∷ [])) client user topic
+      direction c in
+      parts allows (refuses rules direction topic) (is_asked rules wanted client user topic)
       (allow_by rules (row_views rows) client user topic direction)
-      (allow_by rules (row_views (row ∷ [])) client user topic direction) way
-      (allow_is rules client user topic direction)
-      (sym (ap is_decided (reason_is rules client user topic direction)) ∙ d)
+      (allow_by rules (row_views (row ∷ [])) client user topic direction) way taken
+      (allow_is rules client user topic direction taken)
+      (sym (ap is_decided (reason_is rules client user topic direction taken)) ∙ d)
       (sym (change_by rules way (row_views rows) (row_views (row ∷ [])) client user topic direction)
       ∙ c)
     where
-      parts : (s m a b : Bool) (w : Way) → b ≡ is_grant (says s m)
+      parts : (s r m a b : Bool) (w : Way) → r ≡ false → b ≡ is_grant (says s m)
           → is_decided (says s m) ≡ true → changes_by w a b ≡ true
-          → ((m && same s a) ≡ true) × (w ≡ way_of s)
-      parts s false a b w g d e = absurd (let q : false ≡ true = d in cc)
-      parts true true a b Gained g d e =
+          → ((not r && m && same s a) ≡ true) × (w ≡ way_of s)
+      parts s true m a b w t g d e = absurd (let q : true ≡ false = t in cc)
+      parts s false false a b w t g d e = absurd (let q : false ≡ true = d in cc)
+      parts true false true a b Gained t g d e =
           absurd (let q : false ≡ true = sym (ap (λ x. x && not a) g) ∙ e in cc)
-      parts true true a b Lost g d e = ((and_parts a (not b) e).0, refl)
-      parts false true a b Gained g d e = ((and_parts b (not a) e).1, refl)
-      parts false true a b Lost g d e =
+      parts true false true a b Lost t g d e = ((and_parts a (not b) e).0, refl)
+      parts false false true a b Gained t g d e = ((and_parts b (not a) e).1, refl)
+      parts false false true a b Lost t g d e =
           absurd (let q : false ≡ true = sym (ap not g) ∙ (and_parts a (not b) e).1 in cc)
 
   -- ---- what it names

@@ -7,6 +7,7 @@ use Rattle.std.specs.Prelude.{map, string_bytes}
 use Rattle.mq_topic.specs.Texts.{is_name}
 use Rattle.mq_acl.specs.Access.{grants}
 use Rattle.mq_acl.specs.AccessLists.{allow_by}
+use Rattle.mq_acl.specs.Refused.{refuses}
 use Rattle.mq_acl.specs.Rows.{AclRow}
 use Rattle.mq_acl.specs.Views.{row_views}
 use Rattle.mq_acl.specs.declared.access.Direction.{Direction}
@@ -51,6 +52,12 @@ is_of_each Every = true
 is_of_each AtLeastOne = false
 is_of_each Never = true
 
+-- all of it is to be allowed
+abbrev pub is_every : Holds → Bool
+is_every Every = true
+is_every AtLeastOne = false
+is_every Never = false
+
 -- something is expected of the client in this direction: it is one of those that are meant, and none
 -- of those that are excepted
 abbrev pub is_claimed : List AclRow → Claim → Option (List ℕ) → Direction → Bool
@@ -58,11 +65,13 @@ is_claimed rows claim user direction =
     is_one rows user claim.whom && not (list_any (is_one rows user) (excepted claim.except))
     && grants direction claim.access
 
--- the list allows all of it, or none
+-- the list allows all of it, or none; of what is to be allowed, the topics that the broker refuses by
+-- itself aren't asked about
 abbrev pub KeepsTo : Rules → (allows : Bool) → List Row → Claim → Type 0
 KeepsTo rules allows rows claim = (direction : Direction) (client topic : List ℕ)
     (user : Option (List ℕ)) → can_be_id client ≡ true → can_be_user user ≡ true
     → are_asked rules client user ≡ true → is_name topic ≡ true
+    → (allows && refuses rules direction topic) ≡ false
     → is_claimed (row_views rows) claim user direction ≡ true
     → is_asked rules claim.topics client user topic ≡ true
     → allow_by rules (row_views rows) client user topic direction ≡ allows
@@ -152,15 +161,27 @@ abbrev pub IsUnnamed : List Row → Claim → Bor (List ℕ) → Type 0
 IsUnnamed rows claim name = (is_user_of name.now (row_views rows) ≡ false)
     × ((claim.whom ≡ User name.now) ⊎ Contains (excepted claim.except) (User name.now))
 
+-- each client is to be allowed what the broker refuses by itself: the filter, read as a topic, is so
+abbrev pub wants_refused : Rules → Claim → Direction → Bool
+wants_refused rules claim direction =
+    is_every claim.holds && grants direction claim.access && refuses rules direction claim.topics
+
+abbrev pub IsRefused : Rules → Claim → Direction → Type 0
+IsRefused rules claim direction = wants_refused rules claim direction ≡ true
+
+abbrev pub TakesAll : Rules → Claim → Type 0
+TakesAll rules claim = (direction : Direction) → wants_refused rules claim direction ≡ false
+
 -- what is said of the claim is so
 abbrev pub IsJudgement : Rules → List Row → Claim → Judgement → Type 0
 IsJudgement rules rows claim judged.Holds = (is_asked_about rules claim.whom ≡ true)
-    × LeavesNoneOut rules rows claim × IsKept rules rows claim claim.holds
+    × TakesAll rules claim × LeavesNoneOut rules rows claim × IsKept rules rows claim claim.holds
 IsJudgement rules rows claim (judged.Fails d) = IsBroken rules rows claim claim.holds d
 IsJudgement rules rows claim (judged.NoneMay direction) =
     IsMissing rules rows claim claim.holds direction
 IsJudgement rules rows claim (judged.Unnamed user) = IsUnnamed rows claim user
 IsJudgement rules rows claim (judged.Unasked user) = IsUnasked rules claim.whom user
+IsJudgement rules rows claim (judged.Refused direction) = IsRefused rules claim direction
 IsJudgement rules rows claim (judged.LeavesOut user) =
     (is_left_out rules (row_views rows) claim (string_bytes user) ≡ true)
     × IsKept rules rows claim claim.holds
@@ -209,6 +230,7 @@ IsNone rules allows rows claim (judged.Fails d) = IsAgainst rules allows rows cl
 IsNone rules allows rows claim (judged.NoneMay direction) = ⊥
 IsNone rules allows rows claim (judged.Unnamed user) = ⊥
 IsNone rules allows rows claim (judged.Unasked user) = ⊥
+IsNone rules allows rows claim (judged.Refused direction) = ⊥
 IsNone rules allows rows claim (judged.LeavesOut user) = ⊥
 
 -- in each direction one is meant, or in one of them none is
@@ -220,9 +242,10 @@ IsOne rules rows claim (judged.NoneMay direction) =
     (grants direction claim.access ≡ true) × AllowsNone rules rows claim direction
 IsOne rules rows claim (judged.Unnamed user) = ⊥
 IsOne rules rows claim (judged.Unasked user) = ⊥
+IsOne rules rows claim (judged.Refused direction) = ⊥
 IsOne rules rows claim (judged.LeavesOut user) = ⊥
 
--- what is said where nobody is left out
+-- what is said where nobody is left out, and nothing is refused
 abbrev pub IsAsked : Rules → List Row → Claim → Judgement → Type 0
 IsAsked rules rows claim judged.Holds =
     (is_asked_about rules claim.whom ≡ true) × IsKept rules rows claim claim.holds

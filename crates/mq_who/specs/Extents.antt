@@ -2,6 +2,7 @@
 use Rattle.std.specs.Prelude.{◌≡◌, ℕ, Bool, true, false, List, ◌&&◌, Option}
 use Rattle.mq_topic.specs.Texts.{is_name}
 use Rattle.mq_acl.specs.AccessLists.{allow_by}
+use Rattle.mq_acl.specs.Refused.{refuses}
 use Rattle.mq_acl.specs.Views.{row_views}
 use Rattle.mq_acl.specs.declared.access.Direction.{Direction}
 use Rattle.mq_acl.specs.declared.row.Row.{Row}
@@ -29,20 +30,23 @@ pub record HasCase (rules : Rules) (allows : Bool) (rows : List Row) (wanted : L
   pub case : is_case rules allows (row_views rows) wanted client user topic direction ≡ true
 
 -- the list allows each client of the class that is asked about each topic that the filter matches for
--- it, or none
+-- it, or none; of what is to be allowed, the topics that the broker refuses by itself aren't asked about
 abbrev pub AllAre : Rules → (allows : Bool) → List Row → (wanted : List ℕ) → Class → Direction
     → Type 0
 AllAre rules allows rows wanted class direction = (client topic : List ℕ)
     (user : Option (List ℕ)) → can_be_id client ≡ true → can_be_user user ≡ true
     → are_asked rules client user ≡ true → is_name topic ≡ true
+    → (allows && refuses rules direction topic) ≡ false
     → is_member (row_views rows) user class ≡ true → is_asked rules wanted client user topic ≡ true
     → allow_by rules (row_views rows) client user topic direction ≡ allows
 
--- the filter matches no topic for the clients of the class that are asked about
-abbrev pub NoneMatched : Rules → List Row → (wanted : List ℕ) → Class → Type 0
-NoneMatched rules rows wanted class = (client topic : List ℕ) (user : Option (List ℕ))
+-- the filter matches no topic for the clients of the class that are asked about, of those that the broker
+-- doesn't refuse by itself
+abbrev pub NoneMatched : Rules → List Row → (wanted : List ℕ) → Class → Direction → Type 0
+NoneMatched rules rows wanted class direction = (client topic : List ℕ) (user : Option (List ℕ))
     → can_be_id client ≡ true → can_be_user user ≡ true → are_asked rules client user ≡ true
-    → is_name topic ≡ true → is_member (row_views rows) user class ≡ true
+    → is_name topic ≡ true → refuses rules direction topic ≡ false
+    → is_member (row_views rows) user class ≡ true
     → is_asked rules wanted client user topic ≡ false
 
 -- of the topics that the filter matches for the clients of the class: all, of which there is one; one
@@ -54,7 +58,7 @@ IsExtent rules rows wanted class direction Part =
     HasCase rules true rows wanted class direction × HasCase rules false rows wanted class direction
 IsExtent rules rows wanted class direction Nothing =
     HasCase rules false rows wanted class direction × AllAre rules false rows wanted class direction
-IsExtent rules rows wanted class direction Unmatched = NoneMatched rules rows wanted class
+IsExtent rules rows wanted class direction Unmatched = NoneMatched rules rows wanted class direction
 
 -- the difference is of the class and the direction
 abbrev pub is_about : Class → Direction → Difference → Bool

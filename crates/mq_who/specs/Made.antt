@@ -24,5 +24,6 @@ pub record IsMade (allows : Bool) (wanted : List ℕ) (made : List Row) : Type 0
 -- a line decides
 abbrev pub is_decided : Reason → Bool
 is_decided reasons.NoGrant = false
+is_decided reasons.Broker = false
 is_decided (reasons.Deny line) = true
 is_decided (reasons.Grant line) = true

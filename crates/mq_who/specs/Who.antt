@@ -12,6 +12,7 @@ use Rattle.mq_acl.specs.Filled.{filled}
 use Rattle.mq_acl.specs.Lines.{Access}
 use Rattle.mq_acl.specs.Mosquitto.{known_user}
 use Rattle.mq_acl.specs.Mosquitto as mosquitto
+use Rattle.mq_acl.specs.Refused.{refuses}
 use Rattle.mq_acl.specs.Rows.{AclRow, Everyone}
 use Rattle.mq_acl.specs.Views.{row_views}
 use Rattle.mq_acl.specs.declared.access.Direction.{Direction}
@@ -56,11 +57,12 @@ abbrev pub are_asked : Rules → List ℕ → Option (List ℕ) → Bool
 are_asked Own client user = true
 are_asked Mosquitto client user = can_be_level client && mark_passes can_be_level user
 
--- and the list allows the client to read or write it, or doesn't
+-- the list allows the client to read or write it, or doesn't. Nothing is asked about topics that the
+-- broker refuses by itself: no line decides them, and no client may read or write them
 abbrev pub is_case : Rules → (allows : Bool) → List AclRow → (wanted client : List ℕ)
     → Option (List ℕ) → (topic : List ℕ) → Direction → Bool
 is_case rules allows rows wanted client user topic direction =
-    is_asked rules wanted client user topic
+    not (refuses rules direction topic) && is_asked rules wanted client user topic
     && same allows (allow_by rules rows client user topic direction)
 
 -- the clients of this user name, or without one, are in the class, of which one is that of all user
@@ -104,11 +106,13 @@ abbrev pub IsReal : Rules → (allows : Bool) → List Row → (wanted : List �
 IsReal rules allows rows wanted d =
     Shows rules allows rows wanted d (string_bytes d.client) (user_of d.class) d.topic
 
--- it is so too with any text in the place of a placeholder that stands for it
+-- it is so too with any text in the place of a placeholder that stands for it, where the broker doesn't
+-- refuse the topic by itself
 abbrev pub ShowsOthers : Rules → (allows : Bool) → List Row → (wanted : List ℕ) → AskedRows
     → Difference → Type 0
 ShowsOthers rules allows rows wanted asked d = (text other : List ℕ) → StandsFor asked text other
     → is_name (swap_name text other d.topic) ≡ true
+    → refuses rules d.direction (swap_name text other d.topic) ≡ false
     → Shows rules allows rows wanted d (swap text other (string_bytes d.client))
     (swap_user text other (user_of d.class)) (swap_name text other d.topic)
 

@@ -11,8 +11,8 @@ ghost use Rattle.mq_witness.specs.Rows.{is_name_of, is_user_of};
 ghost use Rattle.mq_expect.specs.Expectations.{User, excepted};
 ghost use Rattle.mq_expect.specs.Views.{claim_view, whom_view};
 ghost use Rattle.mq_who.specs.Claims.{AreOthers, IsAsked, IsJudgement, IsNone, IsOne, IsUnasked};
-ghost use Rattle.mq_who.specs.Claims.{LeavesNoneOut, has_class, is_excepted, is_left_out};
-ghost use Rattle.mq_who.specs.Claims.{is_named_one, is_of_all};
+ghost use Rattle.mq_who.specs.Claims.{IsRefused, LeavesNoneOut, TakesAll, has_class, is_excepted, is_left_out};
+ghost use Rattle.mq_who.specs.Claims.{is_every, is_named_one, is_of_all, wants_refused};
 ghost use Rattle.mq_who.specs.Unasked.{has_text};
 ghost use Rattle.mq_who.specs.Claims.{is_asked_about, is_known, is_meant, is_meant_in};
 ghost use Rattle.mq_who.specs.Faults.{IsWhoFault};
@@ -22,7 +22,7 @@ use crate::fault::WhoFault;
 use crate::level::can_be_level;
 use crate::permissions::{has_short_levels, listed};
 use crate::unasked::unasked_users;
-use mq_acl::{Direction, Owner, Row, Rules, grants};
+use mq_acl::{Direction, Owner, Row, Rules, grants, refuses_filter};
 use mq_differences::{Class, Difference, same_direction};
 use mq_expect::{Claim, Holds, Whom};
 use mq_topic::LevelText;
@@ -42,6 +42,9 @@ pub enum Judgement<'p> {
     Unnamed(&'p str),
     /// By mosquitto's rules nothing is asked about this user, whose name holds `/`, `+` or `#`.
     Unasked(&'p str),
+    /// Each client is to be allowed topics that the broker refuses to let clients read or write in
+    /// this direction, whatever the list says (`mq_acl::refuses_filter`).
+    Refused(Direction),
     /// It does, for each client and topic that is asked about. But the claim means this user too,
     /// whom a line of the list names, and by mosquitto's rules nothing is asked about it, since its
     /// name holds `/`, `+` or `#`.
@@ -95,6 +98,35 @@ fn first_unnamed<'p>(rows: &[Row], all: &[Whom<'p>]) -> Option<&'p str>
         if let Some(name) = unnamed(rows, *whom) {
             return Some(name);
         }
+    }
+    None
+}
+
+fn is_every(holds: Holds) -> bool
+    ensures { result ≡ is_every holds }
+{
+    matches!(holds, Holds::Every)
+}
+
+// Whether each client is to be allowed in this direction what the broker refuses by itself.
+fn wants_refused(rules: Rules, claim: &Claim, direction: Direction) -> bool
+    ensures { result ≡ wants_refused rules (claim_view claim.now) direction }
+{
+    is_every(claim.holds)
+        && grants(direction, claim.access)
+        && refuses_filter(rules, direction, &claim.filter)
+}
+
+// The direction in which it is so, if there is one.
+fn refused_direction(rules: Rules, claim: &Claim) -> Option<Direction>
+    ensures none { IfNone result (TakesAll rules (claim_view claim.now)) }
+    ensures some { IfSome result (IsRefused rules (claim_view claim.now)) }
+{
+    if wants_refused(rules, claim, Direction::Reading) {
+        return Some(Direction::Reading);
+    }
+    if wants_refused(rules, claim, Direction::Writing) {
+        return Some(Direction::Writing);
     }
     None
 }
@@ -189,7 +221,8 @@ fn at_least_one<'p>(granted: &[Difference], claim: &Claim, others: &[Whom]) -> J
     Judgement::Holds
 }
 
-// What is said in place of an answer, if the list doesn't name a user, or nothing is asked about one.
+// What is said in place of an answer, if the list doesn't name a user, nothing is asked about one, or
+// the broker refuses what is claimed.
 fn unanswered<'p>(
     rules: Rules,
     rows: &[Row],
@@ -199,6 +232,7 @@ fn unanswered<'p>(
     ensures known { IfNone result (excepted (claim_view claim.now).except ≡ map whom_view others.now
         → AreOthers rows.now (claim_view claim.now) others.now) }
     ensures asked { IfNone result (is_asked_about rules (whom_view claim.now.whom) ≡ true) }
+    ensures taken { IfNone result (TakesAll rules (claim_view claim.now)) }
     ensures some { excepted (claim_view claim.now).except ≡ map whom_view others.now
         → IfSome result (IsJudgement rules rows.now (claim_view claim.now)) }
 {
@@ -208,8 +242,11 @@ fn unanswered<'p>(
     if let Some(name) = first_unnamed(rows, others) {
         return Some(Judgement::Unnamed(name));
     }
-    let name = unasked(rules, claim.whom)?;
-    Some(Judgement::Unasked(name))
+    if let Some(name) = unasked(rules, claim.whom) {
+        return Some(Judgement::Unasked(name));
+    }
+    let direction = refused_direction(rules, claim)?;
+    Some(Judgement::Refused(direction))
 }
 
 // What is said by what the list allows of the filter, or by what it doesn't.
@@ -312,7 +349,9 @@ fn left_out(
 
 /// Whether by these rules the list keeps to the claim. By mosquitto's rules a claim isn't about clients whose id or user
 /// name holds `/`, `+` or `#`; of one about such a user alone it is said that nothing is asked, and
-/// of one that means such a user whom a line names, that it holds but for that user.
+/// of one that means such a user whom a line names, that it holds but for that user. Of one that each
+/// client may write topics that begin with `$SYS`, or any that begin with `$share`, it is said that
+/// the broker refuses them.
 ///
 /// So many steps are given to a comparison of the list with one of one row. Where they don't
 /// suffice the question is given up.

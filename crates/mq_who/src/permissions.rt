@@ -45,7 +45,7 @@ pub(crate) fn has_short_levels(text: &str) -> bool
 fn is_decided(reason: Reason) -> bool
     ensures { result ≡ is_decided reason }
 {
-    !matches!(reason, Reason::NoGrant)
+    matches!(reason, Reason::Deny(_) | Reason::Grant(_))
 }
 
 // What a line of the new list decides.

@@ -275,8 +275,8 @@ pub(crate) fn start<R: Files, I: Read, W: Write, E: Write>(
     // Of words that are understood, a status of 0 or 1 says what is true of texts that the files
     // may have: of standard input, where its bytes are known, that is what it holds. They name it
     // once at most. By our own rules nothing is then printed on standard error; where the words
-    // name no rules, but by `lint`, of a list with `pattern` lines, or of one that mosquitto reads
-    // otherwise.
+    // name no rules, but by `lint`, of a list with `pattern` lines, of one with a row that grants
+    // what mosquitto refuses by itself, or of one that mosquitto reads otherwise.
     ensures answered { let given = map string_bytes words.now in fault_of mqroute_acl given ≡ []
         → result ≢ 2 → result ≢ 3
         → IsAnswered (rules_given (values_of (subcommand_of mqroute_acl given)))

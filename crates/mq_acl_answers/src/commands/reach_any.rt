@@ -73,8 +73,14 @@ fn found_in<'a>(
         Ok(Judgement::Fails(found)) => Ok(Some(found)),
         Ok(Judgement::Unnamed(user)) => Err(Failure::NoUser { file, user }),
         Ok(Judgement::Unasked(user)) => Err(Failure::UserMark(user)),
-        // That none may is only said of a line with `may some`, and that somebody is left out of one about anyone.
-        Ok(Judgement::Holds | Judgement::NoneMay(_) | Judgement::LeavesOut(_)) => Ok(None),
+        // That none may is only said of a line with `may some`, that somebody is left out of one about
+        // anyone, and that the broker refuses it of one with `may`.
+        Ok(
+            Judgement::Holds
+            | Judgement::NoneMay(_)
+            | Judgement::LeavesOut(_)
+            | Judgement::Refused(_),
+        ) => Ok(None),
         Err(fault) => Err(who_failure(rules, list, rows, about.1, fault)),
     }
 }

@@ -1,18 +1,20 @@
 //! The answer to `who`.
-ghost use Rattle.std.specs.Prelude.{◌≡◌, ◌⊎◌, ℕ, List, IfOk, IfErr, OnOk, false, true};
+ghost use Rattle.std.specs.Prelude.{◌≡◌, ◌⊎◌, ◌++◌, ◌&&◌, ℕ, List, [], ◌∷◌, IfOk, IfErr, OnOk, false, true};
+ghost use Rattle.std.specs.Prelude.{string_bytes};
 ghost use Rattle.std.specs.List.{filter, list_any};
 ghost use Rattle.std.specs.Option.{option_copied};
+ghost use Rattle.mq_acl.specs.Refused.{refuses};
 ghost use Rattle.mq_acl.specs.Views.{row_views};
 ghost use Rattle.mq_acl.specs.declared.row.Row.{Row};
 ghost use Rattle.mq_acl.specs.declared.rules.Rules.{Rules};
-ghost use Rattle.mq_acl.specs.declared.rules.Rules.TheVariants.{Own};
+ghost use Rattle.mq_acl.specs.declared.rules.Rules.TheVariants.{Own, Mosquitto};
 ghost use Rattle.mq_topic.specs.Texts.{is_shared};
 ghost use Rattle.mq_who.specs.Faults.{IsWhoFault};
 ghost use Rattle.mq_who.specs.Unasked.{has_text};
 ghost use Rattle.mq_who.specs.Who.{IsListing};
 ghost use Rattle.mq_acl_answers.specs.Answers.{AreRows};
 ghost use Rattle.mq_acl_answers.specs.Failures.{IsListFailure, IsWhoFailure};
-ghost use Rattle.mq_acl_answers.specs.Notes.{IsQuiet};
+ghost use Rattle.mq_acl_answers.specs.Notes.{IsQuiet, who_limit};
 ghost use Rattle.mq_acl_answers.specs.Statuses.{failure_status};
 ghost use Rattle.mq_acl_answers.specs.Who.{ArePermissions, IsWho, SaysWhetherOthers};
 ghost use Rattle.mq_acl_answers.specs.Who.{has_word, is_kept, is_left_out, is_shown, is_unshared};
@@ -25,7 +27,7 @@ use crate::notes::add_who_limit;
 use crate::otherwise::add_otherwise;
 use crate::outcome::Outcome;
 use crate::printing::print_outcome;
-use mq_acl::{Direction, Row, Rules};
+use mq_acl::{Direction, Row, Rules, refuses_filter};
 use mq_acl_args::{Options, Selection};
 use mq_acl_print::{Asked, ListText, ListTraffic, ScriptTraffic, permissions_text};
 use mq_differences::{Class, Difference};
@@ -227,12 +229,49 @@ fn outcome_of(granted: &[Difference], selection: &Selection<'_>, users: &[&str])
     Outcome::Remark
 }
 
+// Whether it is asked of the direction, and in it the broker refuses by itself what the filter names.
+fn names_refused(
+    rules: Rules,
+    wanted: &TopicFilter,
+    access: Option<Direction>,
+    direction: Direction,
+) -> bool
+    ensures { result ≡ (is_wanted access direction && refuses rules direction wanted.now) }
+{
+    is_wanted(access, direction) && refuses_filter(rules, direction, wanted)
+}
+
+// The directions of which that is so.
+fn refused_directions(
+    alloc: Global,
+    rules: Rules,
+    wanted: &TopicFilter,
+    access: Option<Direction>,
+) -> Result<Vec<Direction>, AllocError>
+    ensures { IfOk result (λ all. all.items
+        ≡ filter (λ direction. is_wanted access direction && refuses rules direction wanted.now)
+        (Direction.Reading ∷ (Direction.Writing ∷ []))) }
+{
+    let mut all = Vec::new(alloc);
+    if names_refused(rules, wanted, access, Direction::Reading) {
+        all.push(Direction::Reading)?;
+    }
+    if names_refused(rules, wanted, access, Direction::Writing) {
+        all.push(Direction::Writing)?;
+    }
+    Ok(all)
+}
+
 // What is said of.
 fn shown(
     alloc: Global,
     granted: Vec<Difference>,
     selection: &Selection<'_>,
-) -> Result<Vec<Difference>, AllocError> {
+) -> Result<Vec<Difference>, AllocError>
+    ensures { IfOk result (λ all. all.items
+        ≡ filter (is_shown selection.now.access (option_copied selection.now.only))
+        granted.items) }
+{
     granted
         .into_iter()
         .filter(|d| is_shown(selection, d))
@@ -242,20 +281,11 @@ fn shown(
 fn answer_text(
     alloc: Global,
     list: ListText<'_, '_>,
-    wanted: &str,
+    asked: Asked<'_>,
     selection: &Selection<'_>,
-    not_asked: &[&str],
-    traffic: Option<ListTraffic<'_>>,
     permissions: Permissions,
     json: bool,
 ) -> Result<String, AllocError> {
-    let asked = Asked {
-        filter: wanted,
-        access: selection.access,
-        of_others: selection.only.is_some(),
-        not_asked,
-        traffic,
-    };
     let mut permissions = permissions;
     let granted = mem::replace(&mut permissions.granted, Vec::new(alloc));
     let granted = shown(alloc, granted, selection)?;
@@ -280,6 +310,8 @@ pub fn show_who<'a, W: Write>(
     ensures unread { IfErr result (λ failure. failure_status failure ≡ 2 → out.new ≡ out.old) }
     ensures quiet { OnOk result (options.rules ≡ Own
         → IsQuiet options.noted list.entry.text.now → notes.new ≡ notes.old) }
+    ensures limited { OnOk result (options.rules ≡ Mosquitto
+        → string_bytes notes.new ≡ string_bytes notes.old ++ who_limit) }
 {
     let permissions = find_permissions(alloc, options.rules, list, wanted, options.steps)?;
     add_who_limit(notes, options.rules)?;
@@ -291,16 +323,16 @@ pub fn show_who<'a, W: Write>(
         script,
         rows: &rows,
     });
-    let json = options.json;
-    let text = answer_text(
-        alloc,
-        list,
-        wanted,
-        &selection,
-        &users,
+    let filter = filter_of(alloc, wanted)?;
+    let refused = refused_directions(alloc, options.rules, &filter, selection.access)?;
+    let asked = Asked {
+        filter: wanted,
+        access: selection.access,
+        of_others: selection.only.is_some(),
+        not_asked: &users,
+        refused: &refused,
         traffic,
-        permissions,
-        json,
-    );
+    };
+    let text = answer_text(alloc, list, asked, &selection, permissions, options.json);
     print_outcome(out, text, outcome)
 }

@@ -1,4 +1,4 @@
-use Rattle.std.proofs.Common.{List, ap, map, string_bytes, sym, ◌∙◌, ◌≡◌, true, false, ℕ}
+use Rattle.std.proofs.Common.{ap, sym, ◌∙◌}
 use Rattle.mq_acl.specs.Views.{row_views}
 use Rattle.mq_expect.specs.Views.{claim_view}
 use Rattle.mq_who.specs.Claims.{is_left_out}
