@@ -1,6 +1,6 @@
 //! The answer to `compare`.
 ghost use Rattle.std.specs.Prelude.{◌≡◌, ◌≢◌, ◌⊎◌, ◌++◌, ℕ, List, [], IfOk, IfErr, OnOk, false, true};
-ghost use Rattle.std.specs.List.{list_any};
+ghost use Rattle.std.specs.List.{filter, list_any};
 ghost use Rattle.mq_acl.specs.declared.rules.Rules.TheVariants.{Own};
 ghost use Rattle.mq_differences.specs.Faults.{IsComparisonFault};
 ghost use Rattle.mq_acl.specs.Views.{row_views};
@@ -192,7 +192,10 @@ fn asked(
     alloc: Global,
     differences: Vec<Difference>,
     only: Option<Way>,
-) -> Result<Vec<Difference>, AllocError> {
+) -> Result<Vec<Difference>, AllocError>
+    ensures { IfOk result (λ all. all.items
+        ≡ filter (λ d. is_way only d.way) differences.items) }
+{
     differences
         .into_iter()
         .filter(|d| is_way(only, d.way))
