@@ -31,6 +31,9 @@ STEPS = {
     "clock-limit": {2: 0},
 }
 
+# What mosquitto refuses by itself.
+REFUSED = "begins_own begins_shared is_refused state_filter"
+
 HEADER = """\
 -- The worked rows of tests/rows, computed from the definitions alone. \
 Made by dev/worked_scripts.py.
@@ -39,6 +42,7 @@ is_some, Result, Ok, Err, codes, slice_index_or, if◌then◌else◌}
 use Rattle.std.proofs.Common.{refl}
 use Rattle.std.specs.Option.{option_map_or}
 use Rattle.mq_acl.specs.AccessLists.{allowed}
+use Rattle.mq_acl.specs.Refused.{begins_own, begins_shared, is_refused, state_filter}
 use Rattle.mq_acl.specs.declared.rules.Rules.TheVariants.{Mosquitto}
 use Rattle.mq_world.specs.Lists.{Text, with_row}
 use Rattle.mq_world.specs.World.{World, Request, Connect, Disconnect, Subscribe, Unsubscribe, \
@@ -197,22 +201,24 @@ def row(path):
         requests.append(request(json.loads(line)))
         wanted.append(answered(outs[number]))
     name = path.stem.replace("-", "_")
+    start = start_of(path)
+    refused = f"\n    {REFUSED}" if "Mosquitto" in start else ""
     asked = "\n    ∷ ".join([*requests, "[]"])
     script = f"\nabbrev {name}-script : List Request\n{name}-script =\n    {asked}\n"
     given = "\n    ∷ ".join([*wanted, "[])"])
     equation = (
-        f"\n{name} : answers {start_of(path)} {name}-script\n    ≡ ({given}\n"
+        f"\n{name} : answers {start} {name}-script\n    ≡ ({given}\n"
         "unfolding fresh_world refusal answer after next with_row allowed unshared_copies "
         "groups_of served_rows\n"
-        "    retained_after retained_copies resumed_copies begins_to_wait filters_of counts\n"
-        f"{name} = refl\n")
+        "    retained_after retained_copies resumed_copies begins_to_wait filters_of counts"
+        f"{refused}\n{name} = refl\n")
     if path.stem not in STEPS:
         return script + equation
     counts = STEPS[path.stem]
     places = listed([str(place[line]) for line in counts])
     return script + equation + (
         f"\n-- the steps of line{'s'[:len(counts) - 1]} {', '.join(str(line) for line in counts)}\n"
-        f"{name}-steps : counted_at {places} {start_of(path)} {name}-script ≡ "
+        f"{name}-steps : counted_at {places} {start} {name}-script ≡ "
         f"{listed([str(n) for n in counts.values()])}\n"
         "unfolding fresh_world refusal answer after next with_row allowed groups_of served_rows "
         "retained_after\n"

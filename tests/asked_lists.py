@@ -13,6 +13,10 @@ OTHERWISE = re.compile(
     r"(user (?P<user>.*) with client id (?P<client>.*)|client id (?P<alone>.*) without a user name)"
     r" may( not)? (?P<access>read|write) (?P<topic>.*?)( by line (?P<by>\d+))?")
 SAME = "mosquitto 2.0 allows the same"
+IN_VAIN = re.compile(
+    r"(?P<file>[^:]+):(?P<line>\d+): mosquitto lets no client (?P<access>read|write) topics that "
+    r"begin with \$share(, or with \$SYS but for \$SYS/broker/connection/\+/state)?, whatever the "
+    r"list says")
 
 
 def number_of(row):
@@ -33,21 +37,33 @@ def faults_of_case(found, rows):
 
 @functools.lru_cache(maxsize=8)
 def decided_otherwise(rows, asked_about):
-    """A client, user and topic of which the rules decide otherwise, if there is one."""
+    """A client, user and topic of which the rules decide otherwise, if there is one, but for what
+    mosquitto refuses by itself."""
     if not any(row.is_pattern for row in rows):
         return None
-    return next((case for case in asked_about if accesses(OwnRules, rows, *case)
-                 != accesses(MosquittoRules, rows, *case)), None)
+    return next((case for case in asked_about if {
+        access for access in accesses(OwnRules, rows, *case)
+        if not MosquittoRules.refuses(case[2], access)}
+        != accesses(MosquittoRules, rows, *case)), None)
+
+
+def granted_in_vain(rows):
+    """The line of the first row that grants what mosquitto refuses by itself, and what it grants."""
+    return next(((str(row.number), access) for access in ("write", "read") for row in rows
+                 if row.access in (access, "readwrite")
+                 and MosquittoRules.refuses(row.filter, access)), None)
 
 
 def faults_of_notes(noted, lists, asked_about, is_linted=False):
     """Of lists by name, which both rules read alike, what is noted: of each of which mosquitto
     decides otherwise, a case that is so; and of one that is linted that it allows the same, where
     it does."""
-    cases, same = [], []
+    cases, same, vain = [], [], {}
     for line in noted.splitlines():
-        found = OTHERWISE.fullmatch(line)
-        if found:
+        found, refused = OTHERWISE.fullmatch(line), IN_VAIN.fullmatch(line)
+        if refused:
+            vain[refused["file"]] = refused["line"], refused["access"]
+        elif found:
             cases.append(found["file"])
             yield from faults_of_case(found, lists[found["file"]])
         elif is_linted and SAME in line:
@@ -58,9 +74,12 @@ def faults_of_notes(noted, lists, asked_about, is_linted=False):
         differs = decided_otherwise(tuple(rows), asked_about)
         if differs and name not in cases:
             yield f"{name}: {differs} is decided otherwise, and not noted"
+        if vain.get(name) != granted_in_vain(rows):
+            yield f"{name}: {vain.get(name)} is noted as refused, not {granted_in_vain(rows)}"
         limit = any(row.is_pattern for row in rows)
         ids = " to client ids and user names without /, + and #" if limit else ""
-        if is_linted and same != ([] if name in cases else [f"{name}: {SAME}{ids}"]):
+        is_same = name not in cases and name not in vain
+        if is_linted and same != ([f"{name}: {SAME}{ids}"] if is_same else []):
             yield f"{name}: noted {same}"
 
 
@@ -82,7 +101,8 @@ def faults_of_permission(rules, rows, asked, shown):
 
 
 def faults_of_missing(rules, rows, asked, shown, asked_about):
-    """What is allowed and not listed, or listed as every topic though one isn't allowed."""
+    """What is allowed and not listed, or listed as every topic though one isn't allowed. Where the
+    filter doesn't name what the broker refuses by itself, `every` isn't about that."""
     listed = {(whom(rows, each["user"]), each["access"]) for each in shown}
     whole = {(whom(rows, each["user"]), each["access"]) for each in shown if each["every"]}
     for client, user, topic in asked_about:
@@ -91,6 +111,8 @@ def faults_of_missing(rules, rows, asked, shown, asked_about):
         may = accesses(rules, rows, client, user, topic)
         for access in ("read", "write"):
             kind = (whom(rows, user), access)
+            if rules.refuses(topic, access) and not rules.refuses(asked.filter, access):
+                continue
             if kind not in listed if access in may else kind in whole:
                 yield f"who: {user} {access} {topic} as {client} isn't listed rightly: {shown}"
                 return
@@ -101,8 +123,11 @@ def faults_of_who(rules, run, folder, wanted, rows, asked_about, left_out):
     words = ["who", *rules.words, "--json", "old.acl"]
     done = run([*words, "--", wanted], folder)
     shown = [json.loads(line) for line in done.stdout.splitlines()]
-    if done.returncode != 0:
-        yield f"who {wanted}: status {done.returncode}: {done.stderr}"
+    refused = [{"refused": access} for access in ("read", "write")
+               if rules.refuses(wanted, access)]
+    if done.returncode != 0 or [each for each in shown if "refused" in each] != refused:
+        yield f"who {wanted}: status {done.returncode}: {done.stderr}{shown}"
+    shown = [each for each in shown if "refused" not in each]
     asked = Row(0, True, None, "readwrite", wanted)
     for each in shown:
         yield from faults_of_permission(rules, rows, asked, each)
@@ -112,7 +137,7 @@ def faults_of_who(rules, run, folder, wanted, rows, asked_about, left_out):
     others = [each for each in shown if whom(rows, each["user"]) not in left]
     done = run([*words, f"--only={only}", "--", wanted], folder)
     if ([json.loads(line) for line in done.stdout.splitlines()], done.returncode) != (
-            others, 1 if others else 0):
+            others + refused, 1 if others else 0):
         yield f"who {wanted} --only {only}: status {done.returncode}: {done.stdout}"
 
 

@@ -55,6 +55,12 @@ def unnamed(rows, claim):
     return next((whom for whom in (claim.whom, *claim.left_out) if whom not in kinds), None)
 
 
+def is_refused(rules, claim):
+    """Whether each client is to be allowed what the broker refuses by itself."""
+    return HOLDS[claim.holds] == "every" and any(
+        rules.refuses(claim.wanted, access) for access in ACCESSES[claim.access])
+
+
 def faults_of_shown(rules, rows, claim, shown):
     """What is wrong with the client and the topic that show that the claim doesn't hold."""
     client, user, topic, access = shown["client"], shown["user"], shown["topic"], shown["access"]
@@ -71,6 +77,9 @@ def faults_of_verdict(rules, rows, claim, shown, asked_about):
     """What is wrong with what is said of a claim."""
     if (shown["kind"] == "unnamed") != (unnamed(rows, claim) is not None):
         yield f"test: {claim.line()}: {shown}"
+    elif (shown["kind"] == "refused") != (
+            is_refused(rules, claim) and unnamed(rows, claim) is None):
+        yield f"test: {claim.line()}: {shown}"
     if shown["kind"] == "fails":
         yield from faults_of_shown(rules, rows, claim, shown)
     if shown["kind"] not in ("holds", "none may"):
@@ -79,7 +88,9 @@ def faults_of_verdict(rules, rows, claim, shown, asked_about):
     for access in ACCESSES[claim.access]:
         if shown["kind"] == "none may" and shown["words"].split()[4] != access:
             continue
-        may = {allowed(rules, rows, *case, access) for case in cases}
+        # What the broker refuses by itself isn't asked where each is to be allowed it.
+        may = {allowed(rules, rows, *case, access) for case in cases
+               if HOLDS[claim.holds] != "every" or not rules.refuses(case[2], access)}
         wrong = {"every": False, "none": True}.get(HOLDS[claim.holds])
         if (True in may if shown["kind"] == "none may" else wrong in may):
             yield f"test: {claim.line()}: {shown}, and {access} {may}"

@@ -60,7 +60,8 @@ def faults_of_shown(shown, lines, topics, rows, rules, lists, asked_about):
 
 def shown_by(run, folder, words):
     done = run([*words, "--script", "counted.jsonl"], folder)
-    return [json.loads(line) for line in done.stdout.splitlines()]
+    shown = [json.loads(line) for line in done.stdout.splitlines()]
+    return [each for each in shown if "topic" in each]
 
 
 def faults_of_counts(rules, run, folder, chance, names, wanted, lists, asked_about):

@@ -40,9 +40,17 @@ def filter_matches(text, topic):
     return len(wanted) == len(levels) and all(w in ("+", l) for w, l in zip(wanted, levels))
 
 
+# Where bridges tell their state (mosquitto.conf(5), `notifications`).
+STATES = "$SYS/broker/connection/+/state"
+
+
 class OwnRules:
     """A mark stands for a level, and a `deny` line beats each other."""
     words: list[str] = []
+
+    @staticmethod
+    def refuses(_topic, _access):
+        return False
 
     @staticmethod
     def rank(row):
@@ -68,6 +76,14 @@ class MosquittoRules:
     words = ["--rules", "mosquitto"]
 
     @staticmethod
+    def refuses(topic, access):
+        """Whether mosquitto refuses it whatever the list says."""
+        if topic.startswith("$share"):
+            return True
+        return (access == "write" and topic.startswith("$SYS")
+                and not filter_matches(STATES, topic))
+
+    @staticmethod
     def rank(row):
         return (row.is_pattern, row.access != "deny")
 
@@ -83,12 +99,14 @@ class MosquittoRules:
 
 
 def deciding(rules, rows, client, user, topic, access):
-    """The row that decides, if one does, and the first that grants."""
+    """The row that decides, if one does, and the first that grants. No row decides what the broker
+    refuses by itself."""
     judges = sorted((row for row in rows if row.access in (access, "readwrite", "deny")),
                     key=rules.rank)
     covering = [row for row in judges if rules.covers(row, client, user, topic)]
     grants = [row for row in covering if row.access != "deny"]
-    return (covering or [None])[0], (grants or [None])[0]
+    row = None if rules.refuses(topic, access) else (covering or [None])[0]
+    return row, (grants or [None])[0]
 
 
 def allowed(rules, rows, client, user, topic, access):
@@ -103,6 +121,6 @@ def accesses(rules, rows, client, user, topic):
     found = set()
     for access in ("read", "write"):
         row = next((row for row in covering if row.access in (access, "readwrite", "deny")), None)
-        if row is not None and row.access != "deny":
+        if row is not None and row.access != "deny" and not rules.refuses(topic, access):
             found.add(access)
     return found

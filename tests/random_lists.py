@@ -23,11 +23,11 @@ def run(words, folder, given=""):
         [PROGRAM, *words], cwd=folder, input=given, capture_output=True, text=True, timeout=60)
 
 
-LEVELS = ["a", "b", "", "$s", "c1", "u1"]
+LEVELS = ["a", "b", "", "$s", "$SYS", "$sharex", "c1", "u1"]
 USERS = [None, "u1", "u2", "zz"]
 # Names that no question but those about one client is asked for by mosquitto's rules.
 ODD_NAMES = ["a/b", "c1/u1", "a+", "#"]
-CLIENTS = ["c1", "a", "u1", "q", "$s"]
+CLIENTS = ["c1", "a", "u1", "q", "$s", "$SYS"]
 TOPICS = sorted(
     {"/".join(levels) for count in (1, 2)
      for levels in itertools.product(LEVELS + ["x", "$x"], repeat=count)} - {""}
@@ -180,7 +180,7 @@ def faults_of_why(rules, folder, chance, text):
         if (line_of(each["deny"]), line_of(each["grant"])) != wanted:
             yield f"{words}: {each}, not {deny} and {grant}"
         may = allowed(rules, rows, client, user, topic, each["access"])
-        if each["allowed"] != may:
+        if each["allowed"] != may or each.get("refused", False) != rules.refuses(topic, each["access"]):
             yield f"{words}: {each}"
         asked = run([*words[:-3], "--may", each["access"], *words[-3:]], folder)
         if asked.returncode != (0 if may else 1) or asked.stdout != done.stdout:

@@ -8,7 +8,7 @@ import time
 from access.lists import Client, allowing
 from access.mqtt import (NOT_AUTHORIZED, PING, PINGRESP, PUBACK, Connection, acknowledged, copies,
                          publish_packet, subscribe_packet)
-from access.seen import PATIENCE, SEEDER, Fault, Seen, filters_of
+from access.seen import PATIENCE, SEEDER, Fault, Seen, filters_of, seeded_of
 
 TRIES = 5  # starts of a mosquitto
 
@@ -90,7 +90,7 @@ class Asked:
         self.seed()
 
     def seed(self):
-        for topic in self.group.topics:
+        for topic in seeded_of(self.group):
             self.seeder.send(publish_packet(topic, "kept", 1, retain=True))
             if (1, NOT_AUTHORIZED) in acknowledged(self.seeder.until(PUBACK)):
                 raise Fault(f"mosquitto refuses {topic} under a list that allows all")

@@ -9,12 +9,15 @@ WORDS = ("a", "a", "b", "b", "x", "x", "", "A", "c1", "u1", "a b", "a  b", "é",
 PIECES = ("a", "b", "c1", "u1", "x", "é", " ", "-", "/", "$", "%c", "%u", "%")
 PLAIN = ("a", "b", "c1", "c2", "u1", "u2", "x", "A", "a b", "a c", "é", "dev-1")
 ODD = ("a/b", "/a", "a/", "a//b", "/", "$x", "$x/a", "$", "%c", "%u", "%u", "%u/%c", "x%c", "%u%u",
-       "%", " a", "a ", "a b c", "+", "a+", "#", "b/#", "+/a")
+       "%", " a", "a ", "a b c", "+", "a+", "#", "b/#", "+/a", "$SYS", "$SYSTEM", "$share", "$S",
+       "YS")
+# First levels of which mosquitto refuses much by itself.
+OWN = ("$SYS", "$SYS", "$SYSTEM", "$share", "$sharex", "$SYS%c", "$S%u", "%c", "%u")
 # What stands in place of a level, and filters.
 MARKS = ("%c", "%u", "%c", "%u", "x%c", "%ux", "a-%c-b", "%c%u", "%u%c", "%c-%c", "$%c", "$x%u",
          "%c%", "%%u", "% c")
 WIDE = ("#", "#", "#", "+/#", "+/+", "+", "a/#", "/#", "+/+/#", "$x/#", "$x", "$x/+", "%c/#",
-        "%u/#", "+/%c/#", "+/%u", "%c", "%u", "%u/%c/#")
+        "%u/#", "+/%c/#", "+/%u", "%c", "%u", "%u/%c/#", "$SYS/#", "$SYS/+", "$share/#")
 ACCESSES = ("read ", "write ", "readwrite ", "readwrite ", "", "deny ", "deny ")
 BLANK = ("", "# topic #", "#", "  ", "\r", " \t")
 FAULTS = ("topic", "pattern ", "user", "user  ", "topic a/#/b", "topic read a+/b", "topic rw a/b",
@@ -49,6 +52,11 @@ def shape(chance):
     for place in range(len(levels)):
         if chance.random() < 0.4:
             levels[place] = chance.choice(MARKS)
+    kind = chance.random()
+    if kind < 0.15:
+        levels[0] = chance.choice(OWN)
+    elif kind < 0.2:
+        levels = ["$SYS", "broker", "connection", levels[0], "state"]
     return "/".join(levels)
 
 
@@ -64,7 +72,15 @@ def filled(text, client):
 
 
 def is_asked(topic):
-    return bool(topic) and not set(topic) & set("+#") and not topic.startswith(("$SYS", "$share"))
+    return bool(topic) and not set(topic) & set("+#")
+
+
+def is_kept(topic):
+    """Whether mosquitto lets no client write it, whatever its list says."""
+    levels = topic.split("/")
+    is_state = len(levels) == 5 and (*levels[:3], levels[4]) == (
+        "$SYS", "broker", "connection", "state")
+    return topic.startswith("$share") or topic.startswith("$SYS") and not is_state
 
 
 def random_group(chance):

@@ -2,7 +2,7 @@
 import json
 import subprocess
 
-from access.seen import PATIENCE, SEEDER, Fault, Seen, filters_of
+from access.seen import PATIENCE, SEEDER, Fault, Seen, filters_of, seeded_of
 
 
 class Script:
@@ -13,7 +13,7 @@ class Script:
         self.topics = {topic: place for place, topic in enumerate(group.topics)}
         self.before = [{"do": "connect", "client": SEEDER}]
         self.before += [{"do": "publish", "client": SEEDER, "topic": topic, "payload": "kept",
-                         "retain": True} for topic in group.topics]
+                         "retain": True} for topic in seeded_of(group)]
         for client in group.clients:
             user = {} if client.user is None else {"user": client.user}
             self.before.append({"do": "connect", "client": client.name, **user})
