@@ -153,6 +153,14 @@ class Why(unittest.TestCase):
             done = self.why(script, "--json", "--acl-file=list", *words, "script", "3", "c")
             self.assertEqual(json.loads(done.stdout)["cause"], wanted)
 
+    def test_refused_by_the_broker(self):
+        """By mosquitto's rules no list lets a client publish to the broker's own topics."""
+        (self.folder / "list").write_text("topic readwrite $SYS/#\n")
+        script = [connect("c"), subscribe("c", "$SYS/x"), publish("c", "$SYS/x")]
+        for words, wanted in ((["--rules=own"], False), (["--rules=mosquitto"], True)):
+            done = self.why(script, "--acl-file=list", *words, "script", "3", "c")
+            self.assertEqual("mosquitto refuses it, whatever the list says" in done.stdout, wanted)
+
     def test_whose_id_counts(self):
         """Two clients with one user name: the list says otherwise by %c, and by mosquitto's rules
         by an id that holds a wildcard."""

@@ -14,6 +14,7 @@ from ..common.programs import find_program, output_of
 from ..common.texts import escaped, lines
 
 NO_LINE = "no line allows it"
+REFUSED = "mosquitto refuses it, whatever the list says"
 CLIENT_MARK = b"%c"
 
 
@@ -32,12 +33,15 @@ class Verdict:
     allowed: bool
     deny: Line | None
     grant: Line | None
+    refused: bool = False  # by the broker itself, so that no line decides
 
     def deciding_line(self) -> Line | None:
-        return self.deny or self.grant
+        return None if self.refused else self.deny or self.grant
 
     def in_words(self) -> str:
         """The line that decides."""
+        if self.refused:
+            return REFUSED
         line = self.deciding_line()
         return f"{line.line}: {escaped(line.text.strip())}" if line else NO_LINE
 
@@ -89,7 +93,7 @@ class AccessList:
     def verdict_of(self, text: str) -> Verdict:
         found = json.loads(text)
         return Verdict(found["access"], found["allowed"], self.line(found["deny"]),
-                       self.line(found["grant"]))
+                       self.line(found["grant"]), found.get("refused", False))
 
     def line(self, found: dict[str, Any] | None) -> Line | None:
         """A line as the program shows it, which may have read a copy."""

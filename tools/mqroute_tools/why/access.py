@@ -1,6 +1,6 @@
 """The access list that is in force at a line, asked by mqroute-acl."""
 from ..common.tables import shown, user_shown
-from ..script.access_list import AccessList, Line, Question, Verdict
+from ..script.access_list import REFUSED, AccessList, Line, Question, Verdict
 from .history import History
 
 
@@ -18,6 +18,8 @@ class Access:
         """What decides."""
         if self.list is None or verdict is None:
             return "there is no access list"
+        if verdict.refused:
+            return REFUSED
         line = verdict.deciding_line()
         if line is None:
             whom = "a client without a user name" if user is None else f"user {user_shown(user)}"
