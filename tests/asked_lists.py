@@ -48,7 +48,7 @@ def decided_otherwise(rows, asked_about):
 
 
 def granted_in_vain(rows):
-    """The line of the first row that grants what mosquitto refuses by itself, and what it grants."""
+    """The line of the first row that grants what mosquitto refuses by itself, and what that is."""
     return next(((str(row.number), access) for access in ("write", "read") for row in rows
                  if row.access in (access, "readwrite")
                  and MosquittoRules.refuses(row.filter, access)), None)

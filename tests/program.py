@@ -34,8 +34,9 @@ AT_LIMITS = "".join(f'{{"line":{line},"reason":{reason}}}\n' if reason is not No
                     f'{{"code":14,"line":{line},"refused":"RetainedFull"}}\n'
                     for line, reason in REASONS.items())
 FILES = {"script": SCRIPT.encode(), "limited": LIMITED.encode(), "empty": b"",
-         "blank": b"\n \n\r\n", "last": f"\n\n{CONNECT}".encode(), "list": b"topic a\n", "faulty": b"# c\n\ntopic a b",
-         "bytes": b"\xff", "marks": b"pattern x%c/%u%c\n", "tab": b"\ttopic b\n"}
+         "blank": b"\n \n\r\n", "last": f"\n\n{CONNECT}".encode(),
+         "list": b"topic a\n", "faulty": b"# c\n\ntopic a b", "bytes": b"\xff",
+         "marks": b"pattern x%c/%u%c\n", "tab": b"\ttopic b\n"}
 UNKNOWN_RULES = "error: {}\n  [possible values: own, mosquitto]\n\n" \
     "For more information, try '--help'.\n"
 

@@ -180,7 +180,8 @@ def faults_of_why(rules, folder, chance, text):
         if (line_of(each["deny"]), line_of(each["grant"])) != wanted:
             yield f"{words}: {each}, not {deny} and {grant}"
         may = allowed(rules, rows, client, user, topic, each["access"])
-        if each["allowed"] != may or each.get("refused", False) != rules.refuses(topic, each["access"]):
+        refused = rules.refuses(topic, each["access"])
+        if (each["allowed"], each.get("refused", False)) != (may, refused):
             yield f"{words}: {each}"
         asked = run([*words[:-3], "--may", each["access"], *words[-3:]], folder)
         if asked.returncode != (0 if may else 1) or asked.stdout != done.stdout:

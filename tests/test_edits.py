@@ -1,4 +1,4 @@
-"""What dev/edits says of itself: each edit names what stands for it in the gate, and that is there."""
+"""What dev/edits says of itself: each edit names what stands for it in the gate, which is there."""
 import pathlib
 import re
 import sys

@@ -1,5 +1,5 @@
-"""A preview of a list with a line for a user about whom nothing is asked: it is never called without
-a change."""
+"""A preview of a list with a line for a user about whom nothing is asked: it is never called
+without a change."""
 import json
 import unittest
 

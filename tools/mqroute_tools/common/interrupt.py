@@ -60,8 +60,8 @@ def raise_once(number: int, *_: object) -> None:
 
 
 def send_again(unraised: "sys.UnraisableHookArgs") -> None:
-    """What a signal raises in a finalizer ends there, and Python only shows it. So the signal is sent
-    until it is raised elsewhere; what is raised in here would be lost too."""
+    """What a signal raises in a finalizer ends there, and Python only shows it. So the signal is
+    sent until it is raised elsewhere; what is raised in here would be lost too."""
     global in_hook, is_lost
     if not isinstance(unraised.exc_value, Stopped):
         sys.__unraisablehook__(unraised)
