@@ -5,8 +5,8 @@ from itertools import chain, islice, pairwise
 from typing import NamedTuple
 
 from ..common.exit_status import Fault
-from ..common.files import open_input
 from ..common.messages import say
+from .log_forms import open_log
 from .mosquitto_log import raw_lines
 from .time_stamps import HALF_A_YEAR, LOOKED_AT, Stamps
 
@@ -41,9 +41,9 @@ def decide(stamps: Stamps, lines: Iterator[bytes]) -> list[bytes]:
     return first
 
 
-def tail(name: str) -> list[bytes]:
+def tail(name: str, form: str | None) -> list[bytes]:
     """The last lines, of which the first may be cut."""
-    with open_input(name) as stream:
+    with open_log(name, form) as stream:
         if stream.seekable():
             stream.seek(max(0, stream.seek(0, 2) - TAIL))
         end = b""
@@ -55,20 +55,20 @@ def tail(name: str) -> list[bytes]:
 def span(file: LogFile, stamps: Stamps) -> Span | None:
     """None of a file without a time."""
     stamps.years, stamps.prefix_time = 0, None
-    with open_input(file.path) as stream:
+    with open_log(file.path, stamps.form) as stream:
         lines = raw_lines(stream)
         first = next(times(stamps, chain(decide(stamps, lines), lines)), None)
     if first is None:
         return None
     last = first
-    for last in times(stamps, tail(file.path)):
+    for last in times(stamps, tail(file.path, stamps.form)):
         pass
     return Span(file, first, last)
 
 
 def has_other_lines(file: LogFile, stamps: Stamps) -> bool:
     """Whether lines stand there of which no time is known."""
-    with open_input(file.path) as stream:
+    with open_log(file.path, stamps.form) as stream:
         return bool(decide(stamps, raw_lines(stream))) and not stamps.found()
 
 

@@ -8,6 +8,7 @@ from ..common.files import STDIN, at, open_input, plain_file
 from ..script.file_kinds import HEAD, LOG, wrong
 from .conversion import Converter
 from .file_order import LogFile, in_order
+from .log_forms import open_log
 
 PIECE = 1 << 20
 
@@ -20,6 +21,7 @@ class Logs:
 
     def __init__(self, names: list[str], twice: bool = True, form: str | None = None,
                  copied: Mapping[str, str] = {}) -> None:
+        self.form = form
         self.copies: list[IO[bytes]] = []
         self.starts: list[tuple[int, str]] = []  # how many lines were read before each file
         self.head, self.headed = b"", ""  # how the first file begins that isn't empty, and its name
@@ -39,9 +41,10 @@ class Logs:
         return copy.name
 
     def streams(self, reader: Converter | None = None) -> Iterator[BinaryIO]:
-        """The files, opened; with who reads them, so that `where` knows it."""
+        """The files, opened, without what stands around their lines; with who reads them, so that
+        `where` knows it."""
         for path, name in self.files:
-            stream = open_input(path)
+            stream = open_log(path, self.form)
             if not self.head:
                 self.head, self.headed = stream.peek(HEAD)[:HEAD], name
             if reader:

@@ -8,6 +8,7 @@ from pathlib import Path
 from ..common.exit_status import UsageFault
 from ..common.files import GZIP, STDIN, open_input, plain_file
 from ..log.log_files import Logs
+from ..log.log_forms import open_log
 from ..log.log_to_script import sum_up, write_script
 from ..log.options import given_options
 from ..script.file_kinds import HEAD, kind
@@ -39,7 +40,7 @@ def source(name: str, folder: Path, number: int) -> Source:
     if name == STDIN or not plain_file(name):
         path = str(folder / f"input-{number}")
         unpack(name, path)
-    with open_input(path) as stream:
+    with open_log(path) as stream:  # a log may stand in JSON
         head = stream.peek(HEAD)[:HEAD]
     return Source(name, path, kind(head) in KINDS)
 
