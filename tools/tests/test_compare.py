@@ -40,7 +40,7 @@ class OfALog(unittest.TestCase):
             Path(folder, "log").write_text(CONNECTS + log, encoding="utf-8")
             Path(folder, "output").write_text(
                 "".join(json.dumps(a) + "\n" for a in answers), encoding="utf-8")
-            return [line.split(":")[0]
+            return [line.kind
                     for line in compare(Watcher(None, None, Beginning(State())),
                                         Logs([f"{folder}/log"]), f"{folder}/output").lines()]
 
@@ -60,6 +60,8 @@ class OfALog(unittest.TestCase):
                 ("different", PUBLISH + sent("b", 0, 0), ("b", 1, False, None)),
                 ("different", PUBLISH + sent("b", 1, 0)),
                 ("different", PUBLISH, ("b", 1, False, None)),
+                # of one for each subscription some were dropped, as where a queue is full
+                ("different", PUBLISH + sent("b", 1, 0), ("b", 1, False, None), ("b", 1, False, None)),
         ):
             self.assertEqual(self.kinds(log, *copies), [kind], log)
 

@@ -45,7 +45,8 @@ def compared(text: str, output: str) -> list[str]:
         Path(folder, "log").write_text(text, encoding="utf-8")
         Path(folder, "output").write_text(output, encoding="utf-8")
         watcher = Watcher(None, None, beginning([io.BytesIO(text.encode())], None, State()))
-        return compare(watcher, Logs([f"{folder}/log"]), f"{folder}/output").lines()
+        return [str(line) for line in
+                compare(watcher, Logs([f"{folder}/log"]), f"{folder}/output").lines()]
 
 
 def kinds(text: str, output: str) -> list[str]:

@@ -2,15 +2,15 @@
 from collections import Counter, defaultdict
 from collections.abc import Iterable, Set
 
-from ..common.texts import in_quotes
 from ..script.output import Command, Key
 from ..script.sessions import Sessions
 from ..script.topics import matches, plain_filter
 from .difference_kinds import (
-    BROKERS_TOPIC, CUT_OFF, DIFFERENT, HELD_BACK, LOGGED_WILL, MEMBERS_TURN, OWN_WILL,
-    RETAINED_FOR_GROUP, TESTED_AGAIN, joined, kind, own_will)
+    BROKER_REFUSED, BROKERS_TOPIC, CUT_OFF, DENIED_WILL, DIFFERENT, HELD_BACK, LOGGED_WILL,
+    MEMBERS_TURN, MQROUTE_REFUSED, OWN_WILL, RETAINED_FOR_GROUP, TESTED_AGAIN, is_will, joined,
+    kind, own_will)
 from .held_back import Backlog, Owed
-from .report_line import Line, differ
+from .report_line import Line, Refusal, differ
 from .steps import NOBODY, Copy, Event, Step, copy_of
 
 
@@ -23,8 +23,9 @@ class Comparison:
 
     def __init__(self) -> None:
         self.found: list[Line] = []
-        self.refusals: list[str] = []
+        self.refusals: list[Refusal] = []
         self.sent = self.refused = 0
+        self.delivered = 0  # copies of mqroute's
         # how many of the broker's copies of an own will may still wait, by client, topic and size
         self.own_wills: Counter[tuple[str, str, int]] = Counter()
         self.sessions = Sessions()
@@ -40,6 +41,7 @@ class Comparison:
         for key in sorted(keys) if len(keys) > 1 else keys:
             client = key[0]
             theirs, ours = broker.copies[key], mqroute.copies[key]
+            self.delivered += len(ours)
             if ours and len(step.commands) > 1 and own_will(step, key):
                 self.own_wills[*key, ours[0].size] = self.spread(step, key)
             waits = client in cut or (
@@ -63,10 +65,10 @@ class Comparison:
 
     def add_refusals(self, step: Step) -> None:
         one, other = Counter(step.broker.refused), Counter(step.mqroute.refused)
-        for client, topic in sorted((one - other) + (other - one)):
-            who = "the broker" if one[client, topic] else "mqroute"
-            self.refusals.append(f"refused by {who} alone: line {step.place}: "
-                                 f"{in_quotes(client)} {in_quotes(topic)}")
+        for key in sorted((one - other) + (other - one)):
+            kind = BROKER_REFUSED if one[key] else (
+                DENIED_WILL if is_will(step, key) else MQROUTE_REFUSED)
+            self.refusals.append(Refusal(kind, step.place, key))
 
     def spread(self, step: Step, key: Key) -> int:
         """How many copies of a message the broker sends: with MQTT 5 one for each subscription."""
@@ -230,12 +232,12 @@ class Comparison:
             return OWN_WILL
         return found
 
-    def lines(self) -> list[str]:
+    def lines(self) -> list[Line | Refusal]:
         self.settle(None, drained=False)
-        return [str(line) for line in self.found if line.kind] + self.refusals
+        return [*(line for line in self.found if line.kind), *self.refusals]
 
     @staticmethod
-    def kinds(lines: list[str]) -> list[tuple[str, int]]:
+    def kinds(lines: Iterable[Line | Refusal]) -> list[tuple[str, int]]:
         """How many of the lines there are of each kind, most first."""
-        count = Counter(line.partition(": line ")[0] for line in lines)
+        count = Counter(line.kind for line in lines)
         return sorted(count.items(), key=lambda each: (-each[1], each[0]))

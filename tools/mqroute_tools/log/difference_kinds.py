@@ -2,6 +2,7 @@
 docs/reference/compare-log.md explains."""
 from ..script.output import Key
 from ..script.topics import matches
+from .clients import Inferred
 from .steps import Copy, Step
 
 OWN_WILL = "own will in a session that is kept"
@@ -14,9 +15,13 @@ CUT_OFF = "cut off by the end of the connection"
 MEMBERS_TURN = "another member's turn"
 RETAINED_FOR_GROUP = "retained messages for a group"
 OVERLAPPING = "overlapping subscriptions"
+DENIED_WILL = "denied will"
+BROKER_REFUSED = "refused by the broker alone"
+MQROUTE_REFUSED = "refused by mqroute alone"
 ONE_QOS = "QoS of one matching subscription"
 AS_PUBLISHED = "Retain As Published"
 DIFFERENT = "different"
+UNEXPLAINED = DIFFERENT, BROKER_REFUSED, MQROUTE_REFUSED
 
 
 def joined(copies: list[Copy]) -> tuple[int, int] | None:
@@ -43,6 +48,12 @@ def own_will(step: Step, key: Key) -> bool:
     return bool(published) and any(c == gone for c in step.commands[published[-1]:])
 
 
+def is_will(step: Step, key: Key) -> bool:
+    """Whether a publish of this client and topic is a will's: the broker logs none of these."""
+    return any(isinstance(c, Inferred) and c["do"] == "publish" and (c["client"], c["topic"]) == key
+               for c in step.commands)
+
+
 def lower_qos(theirs: list[Copy], ours: list[Copy]) -> bool:
     """Whether the broker's copies, one or as many as ours, have the less QoS."""
     if len(theirs) == 1 and ours:
@@ -65,8 +76,8 @@ def kind(step: Step, key: Key) -> str:
     if (more and filters and any(f.startswith("$share/") for f in filters)
             and all(c.retain for c in theirs)):
         return RETAINED_FOR_GROUP
-    if joined(theirs) == joined(ours):
-        return OVERLAPPING
+    if joined(theirs) == joined(ours) and len(theirs) >= sum(not copy.shared for copy in ours):
+        return OVERLAPPING  # of fewer copies some were dropped
     if client in step.old_protocol and lower_qos(theirs, ours):
         return ONE_QOS
     if (len(theirs) == len(ours) and sorted(c.qos for c in theirs) == sorted(c.qos for c in ours)

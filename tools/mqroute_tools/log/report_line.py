@@ -1,4 +1,5 @@
-"""One line of the report on a log: the copies of one client and topic that differ at a step."""
+"""One line of the report on a log: the copies of one client and topic that differ at a step, or a
+publish that one side alone refused."""
 from dataclasses import dataclass
 
 from ..common.texts import in_quotes
@@ -20,6 +21,21 @@ def differ(copies: list[Copy], others: list[Copy]) -> bool:
     return len(copies) != len(others) or flags(copies) != flags(others)
 
 
+@dataclass(slots=True, frozen=True)
+class Refusal:
+    """A publish that the broker alone refused, or mqroute alone."""
+    kind: str
+    place: int
+    key: Key
+
+    def copies(self) -> int:
+        return 0
+
+    def __str__(self) -> str:
+        client, topic = map(in_quotes, self.key)
+        return f"{self.kind}: line {self.place}: {client} {topic}"
+
+
 @dataclass(slots=True)
 class Line:
     """One line of the report; its kind may be known only later."""
@@ -32,6 +48,10 @@ class Line:
 
     def differs(self) -> bool:
         return differ(self.theirs, self.ours)
+
+    def copies(self) -> int:
+        """How many copies it is about."""
+        return max(len(self.theirs), len(self.ours))
 
     def __str__(self) -> str:
         client, topic = map(in_quotes, self.key)
