@@ -216,7 +216,7 @@ class Steps(Case):
                               stdout=subprocess.PIPE, stderr=terminal)
         self.assertEqual(done.stdout.splitlines()[-1], SUMMARY)
         shown = os.read(ours, 4096).decode()
-        self.assertEqual(re.findall(r"step (\d) of 7: \w+", shown), list("1234567"))
+        self.assertEqual(re.findall(r"step (\d) of 8: \w+", shown), list("12345678"))
         self.assertEqual([line.strip() for line in shown.split("\r")[-2:]], ["", ""])
 
 

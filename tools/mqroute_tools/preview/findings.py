@@ -6,6 +6,7 @@ from typing import Any
 from ..losses.findings import Place, Totals
 from ..script.access_list import Line
 from .gathered_topics import Topics
+from .in_force import Check
 from .script_facts import ScriptFacts
 
 Json = dict[str, Any]
@@ -159,6 +160,7 @@ class Preview:
     notes: list[str]  # on the rules, of mqroute-acl
     not_asked: list[str]  # users whose rights aren't known
     facts: ScriptFacts = field(default_factory=ScriptFacts)
+    check: Check | None = None  # whether the current list was in force; None: a script was given
     could_keep: bool = False  # whether with --keep the causes would have commands
     plan: str | None = None
     carried: list[Carried] = field(default_factory=list)
@@ -188,7 +190,8 @@ class Preview:
     def json(self, summary: str) -> Json:
         by_plan = {"plan": self.plan, "carried": as_objects(self.carried)} if self.plan else {}
         return {"current": self.current, "proposed": self.proposed, "sources": self.sources,
-                "rules": self.rules, "clients": self.facts.clients,
+                "rules": self.rules, "in_force": self.check and self.check.json(),
+                "clients": self.facts.clients,
                 "publishes": self.facts.publishes,
                 "users": [row.json() for row in self.users],
                 "refused": [row.json() for row in self.refused],

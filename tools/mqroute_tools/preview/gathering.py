@@ -6,9 +6,10 @@ from dataclasses import dataclass
 from pathlib import Path
 
 from ..common.files import at
-from ..common.messages import note, say
+from ..common.messages import named, note, say
 from ..common.programs import output_of
 from ..common.progress import Progress
+from ..log.recording import compared as compared_with_log
 from ..losses import acl_verdicts
 from ..losses.comparison import Losses, compare, findings
 from ..losses.findings import Totals
@@ -19,7 +20,8 @@ from ..script.oracle import found_program
 from .acl_answers import Lists
 from .findings import (
     GAINED, LOST, Cause, Preview, RefusedRow, Remark, Right, Subscription, UserRow)
-from .kept_folder import AFTER, BEFORE, NEW, SCRIPT
+from .in_force import Check, NoAnswer, judged, not_asked_for
+from .kept_folder import AFTER, BEFORE, CHECKED, NEW, SCRIPT
 from .plan_losses import PlanLosses
 from .renaming import Renaming, plan_file
 from .script_facts import ScriptFacts, facts_of
@@ -28,8 +30,8 @@ from .user_rows import refused_rows, user_rows
 from .why_command import LIMITS, WhyCommand
 
 STEPS = ("comparing the lists", "looking for remarks", "reading what clients did",
-         "looking at subscriptions", "trying the current list", "trying the proposed list",
-         "comparing what was delivered")
+         "trying the current list", "looking whether it was in force", "looking at subscriptions",
+         "trying the proposed list", "comparing what was delivered")
 BY_PLAN = *STEPS[:3], "renaming topics", *STEPS[3:]
 
 
@@ -93,17 +95,41 @@ def gathered(options: argparse.Namespace, folder: Path, steps: Steps) -> Preview
         renaming = Renaming(plan, script, folder)
     steps.next()
     scripts = (script.path,) * 2 if renaming is None else (renaming.old, renaming.new)
-    answers.subscriptions = receiving_nothing(lists, scripts, renaming)
     outputs = folder / BEFORE, folder / AFTER
-    for one, path, output in zip((lists.current, lists.proposed), scripts, outputs):
-        steps.next()
-        run(options, lists, one, path, output)
+    run(options, lists, lists.current, scripts[0], outputs[0])
+    steps.next()
+    check = checked(options, lists, script, renaming, folder)
+    if check and not check.has_answer():
+        raise NoAnswer(check)
+    steps.next()
+    answers.subscriptions = receiving_nothing(lists, scripts, renaming)
+    steps.next()
+    run(options, lists, lists.proposed, scripts[1], outputs[1])
     steps.next()
     before, after = map(str, outputs)
     differences = (compared(lists, script, before, after) if renaming is None else
                    compared_by_plan(lists, renaming, before, after))
     steps.clear()
-    return put_together(options, lists, script, renaming, answers, differences)
+    found = put_together(options, lists, script, renaming, answers, differences)
+    found.check = check
+    return found
+
+
+def checked(options: argparse.Namespace, lists: Lists, script: Script, renaming: Renaming | None,
+            folder: Path) -> Check | None:
+    """Whether the current list was in force when the logs were written; nothing of a script."""
+    name = named(lists.current.name)
+    if not script.is_made:
+        return None
+    if script.reading is None:
+        return not_asked_for(name)
+    output = folder / BEFORE
+    if renaming is not None:  # that run has the script under other lines
+        output = folder / CHECKED
+        run(options, lists, lists.current, script.path, output)
+    reading = script.reading
+    found = compared_with_log(reading.steps, str(output))
+    return judged(name, found, reading.reader, reading.logs.where, lambda _: False)
 
 
 def receiving_nothing(lists: Lists, scripts: tuple[str, str],

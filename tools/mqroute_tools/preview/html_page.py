@@ -35,7 +35,8 @@ def write(name: str, found: Preview, title: str) -> None:
 def parts(found: Preview, title: str) -> Iterator[str]:
     rows = Rows(found)
     yield beginning(escaped(title), STYLE)
-    yield f"<header><h1>{escaped(title)}</h1>\n{about(found)}{verdict_of(found)}</header>\n"
+    yield (f"<header><h1>{escaped(title)}</h1>\n{about(found)}{checked(found)}"
+           f"{verdict_of(found)}</header>\n")
     yield notes(found)
     for rights, name, head, grants in (
             (found.granted, "granted", "Newly allowed", (found.proposed, found.current)),
@@ -82,6 +83,15 @@ def about(found: Preview) -> str:
 def committed(name: str) -> str:
     commit = commit_of(name)
     return f" (commit {escaped(commit)})" if commit else ""
+
+
+def checked(found: Preview) -> str:
+    """Whether the current list was in force."""
+    if found.check is None:
+        return ""
+    said = " ".join(line.strip() for line in found.check.lines())
+    kind = "check" if found.check.holds() else "check loss"
+    return f"<p class='{kind}'>{escaped(said)}</p>\n"
 
 
 def verdict_of(found: Preview) -> str:

@@ -8,6 +8,7 @@ from ..common import temporary
 from ..common.exit_status import Fault
 
 SCRIPT, BEFORE, AFTER = "script.jsonl", "before", "after"
+STEPS, CHECKED = "steps", "checked"  # that don't stay
 OLD, NEW = "old.jsonl", "new.jsonl"  # by a plan, under old names and under new ones
 NAMES = SCRIPT, BEFORE, AFTER
 ALL_NAMES = *NAMES, OLD, NEW

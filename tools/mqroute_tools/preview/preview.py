@@ -4,8 +4,10 @@ With a plan the clients move to new topics too.
 
 It decides nothing itself: mqroute runs the script under both lists, mqroute-acl answers about the
 lists, and what differs is found as by who-loses.
+Before that it looks whether the current list was the one in force when the logs were written: under
+it mqroute has to send the copies that the logs have.
 Exit status: 0 nothing changes; 1 something does; 2 usage, a list with a line that mosquitto
-doesn't take, or a file or a program failed.
+doesn't take, logs that another list explains or none, or a file or a program failed.
 """
 import argparse
 import os
@@ -13,7 +15,7 @@ import sys
 from pathlib import Path
 from typing import TYPE_CHECKING
 
-from ..common.exit_status import UsageFault
+from ..common.exit_status import FAILED, UsageFault
 from ..common.files import keep_apart, refuse_stdin_twice
 from ..common.option_values import whole_number
 from ..common.terminal import standard_output
@@ -23,6 +25,7 @@ from ..script.oracle import RULES
 from . import kept_folder
 
 if TYPE_CHECKING:
+    from .in_force import Check
     from .not_taken import NotTaken
 
 MOST = 4_294_967_295
@@ -42,6 +45,8 @@ def add_arguments(parser: argparse.ArgumentParser) -> None:
     parser.add_argument("--html", metavar="FILE", help="write a page, too")
     parser.add_argument("--title", help="of the page")
     parser.add_argument("--json", action="store_true", help="one JSON object in place of the text")
+    parser.add_argument("--no-check", action="store_true", help="don't look whether CURRENT was "
+                        "the list in force when the logs were written")
     parser.add_argument("--keep", metavar="FOLDER",
                         help="leave the script of a log and both outputs there")
     for name in ("--max-retained", "--max-queued"):
@@ -67,12 +72,16 @@ def check(options: argparse.Namespace) -> None:
 
 def run(options: argparse.Namespace) -> int:
     check(options)
-    from .not_taken import ListsNotTaken  # takes time to load, as does what comes after
+    from .in_force import NoAnswer  # takes time to load, as does what comes after
+    from .not_taken import ListsNotTaken
     try:
         return shown(options)
     except ListsNotTaken as fault:
         say_not_taken(options, fault.lines)
         raise
+    except NoAnswer as fault:
+        say_no_answer(options, fault.check)
+        return FAILED
 
 
 def say_not_taken(options: argparse.Namespace, lines: list["NotTaken"]) -> None:
@@ -84,6 +93,18 @@ def say_not_taken(options: argparse.Namespace, lines: list["NotTaken"]) -> None:
               + "\n")
     else:
         write(not_taken.as_text(lines))
+
+
+def say_no_answer(options: argparse.Namespace, check: "Check") -> None:
+    from . import html_page, no_answer_page
+    if options.html is not None:
+        no_answer_page.write(options.html, check, html_page.title_of(options))
+    if options.json:
+        found = {"current": options.current, "proposed": options.proposed,
+                 "in_force": check.json(), "summary": check.in_words()}
+        write(json_text(found, indent=1) + "\n")
+    else:
+        write("".join(line + "\n" for line in check.lines()))
 
 
 def write(text: str) -> None:

@@ -11,8 +11,10 @@ from ..log.log_files import Logs
 from ..log.log_forms import open_log
 from ..log.log_to_script import sum_up, write_script
 from ..log.options import given_options
+from ..log.recording import KeptSteps, Recorder, record
+from ..log.script_writer import Writer
 from ..script.file_kinds import HEAD, kind
-from .kept_folder import SCRIPT
+from .kept_folder import SCRIPT, STEPS
 
 KINDS = {"a script", "JSON", "an output of mqroute"}  # which begin as a script may
 
@@ -27,11 +29,20 @@ class Source:
 
 
 @dataclass
+class Reading:
+    """Of the logs that a script is made of."""
+    reader: Recorder
+    steps: KeptSteps
+    logs: Logs
+
+
+@dataclass
 class Script:
     name: str  # as it is shown
     path: str
     is_file: bool  # whether it can be read later, under its name
     is_made: bool = False  # of a log
+    reading: Reading | None = None  # to see whether a list was in force
 
 
 def source(name: str, folder: Path, number: int) -> Source:
@@ -84,8 +95,15 @@ def made(options: argparse.Namespace, sources: list[Source], folder: Path,
     copied = {one.name: one.path for one in sources}
     logs = Logs([one.name for one in sources], not options.no_inference, options.time_format,
                 copied)
-    with open(folder / SCRIPT, "xb") as out:
-        found, written = write_script(options, logs, out)
+    path, steps, reading = folder / SCRIPT, KeptSteps(str(folder / STEPS)), None
+    found: Writer
+    with open(path, "xb") as out:
+        if options.no_check:
+            found, written = write_script(options, logs, out)
+        else:
+            found, written = record(Recorder, options, logs, out, steps)
+            reading = Reading(found, steps, logs)
     before_notes()
     sum_up(found, logs, written)
-    return Script("the script of " + ", ".join(options.source), str(folder / SCRIPT), False, True)
+    name = "the script of " + ", ".join(options.source)
+    return Script(name, str(path), False, True, reading)

@@ -37,7 +37,7 @@ class Report:
 
     def text(self) -> str:
         found = self.found
-        parts = [self.head()]
+        parts = [self.check(), self.head()] if found.check else [self.head()]
         sections: list[tuple[str, Iterator[str]]] = [
             ("Who loses, who gains, of the messages delivered",
              self.first(found.users, self.user)),
@@ -66,6 +66,11 @@ class Report:
         return "\n".join(self.out.wrapped(
             f"{self.proposed} in place of {self.current}{renamed(found)}, tried on {sources}: "
             f"{tried(found)}"))
+
+    def check(self) -> str:
+        """Whether the current list was in force."""
+        lines = self.found.check.lines() if self.found.check else []
+        return "\n".join(part for line in lines for part in self.out.wrapped(line))
 
     def not_asked(self, user: str) -> list[str]:
         return [f"  user {shown(user)}"]

@@ -1,0 +1,102 @@
+"""One reading of a log for both: its script, and its steps for a comparison with what mqroute
+answers to that script."""
+import argparse
+import pickle
+from collections.abc import Callable, Iterator
+from contextlib import contextmanager
+from typing import IO
+
+from . import mosquitto_log as log
+from .comparison import Comparison
+from .inference import Beginning
+from .log_files import Logs
+from .log_to_script import text_of
+from .script_writer import Writer, read_logs
+from .step_reader import Watcher, answered, steps
+from .steps import Step
+
+BATCH = 256  # steps that are kept at once
+REREADS = "Reloading config."
+
+
+class Recorder(Watcher):
+    """Converts, and keeps what a comparison needs to know of the log as a whole."""
+
+    def __init__(self, session_expiry: int | None, form: str | None, begins: Beginning) -> None:
+        self.incoming = 0  # publishes that clients sent
+        # lines at which the broker read its configuration again, or began anew
+        self.reread: list[int] = []
+        super().__init__(session_expiry, form, begins)
+
+    def explain(self, client: str, topic: str) -> None:
+        """Of copies of a log that may show older subscriptions it is said what explains them."""
+        if not self.begins.fresh:
+            Writer.explain(self, client, topic)
+
+    def take(self, found: log.Publish, routed: bool) -> None:
+        self.incoming += 1
+        super().take(found, routed)
+
+    def noted(self, text: str) -> bool:
+        if text.startswith(REREADS):
+            self.reread.append(self.place)
+        return super().noted(text)
+
+    def start(self) -> None:
+        if self.incoming:
+            self.reread.append(self.place)
+        super().start()
+
+
+class KeptSteps:
+    """The steps of one reading, in a file of its own."""
+
+    def __init__(self, path: str) -> None:
+        self.path = path
+
+    @contextmanager
+    def written(self) -> Iterator[Callable[[Step], None]]:
+        """Gives what takes each step, in place of those of an earlier reading."""
+        batch: list[Step] = []
+        with open(self.path, "wb") as out:
+            def add(step: Step) -> None:
+                batch.append(step)
+                if len(batch) == BATCH:
+                    pickle.dump(batch, out, pickle.HIGHEST_PROTOCOL)
+                    batch.clear()
+            yield add
+            pickle.dump(batch, out, pickle.HIGHEST_PROTOCOL)
+
+    def __iter__(self) -> Iterator[Step]:
+        with open(self.path, "rb") as stream:
+            while True:
+                try:
+                    yield from pickle.load(stream)
+                except EOFError:
+                    return
+
+
+def record(wanted: type[Recorder], options: argparse.Namespace, logs: Logs, out: IO[bytes],
+           kept: KeptSteps) -> tuple[Recorder, int]:
+    """Writes the commands of the logs to one file of its own, and the steps to another; gives what
+    read them, and how many commands they are."""
+    def write(found: Recorder) -> int:
+        out.seek(0)
+        out.truncate()
+        written = 0
+        with kept.written() as add:
+            for step in steps(found, logs.streams(found)):
+                for command in step.commands:
+                    out.write(text_of(command).encode("utf-8") + b"\n")
+                written += len(step.commands)
+                add(step)
+        return written
+    return read_logs(wanted, options, logs, write)
+
+
+def compared(kept: KeptSteps, output: str) -> Comparison:
+    """With what mqroute answered to the script."""
+    found = Comparison()
+    for step in answered(kept, output):
+        found.add(step)
+    return found
