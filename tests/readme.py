@@ -155,6 +155,8 @@ def main() -> int:
         for name in COPIED:
             if (top / name).is_dir():
                 shutil.copytree(top / name, pathlib.Path(folder, name))
+        for copied in pathlib.Path(folder).rglob("*"):  # whatever the umask was
+            copied.chmod(copied.stat().st_mode | 0o444)
         if options.write:
             return write(pages, folder, path) or 0
         found = list(block_faults(pages, folder, programs, path))

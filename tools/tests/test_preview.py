@@ -152,7 +152,7 @@ class Text(Case):
             self.assertEqual(
                 done.stdout.splitlines()[-1], "0 users lose 0 of 6 messages, 0 gain; 0 rights "
                 "granted, 0 taken away; 0 subscriptions can receive nothing any more")
-        self.assertEqual(len(again.stdout.splitlines()), 3)
+        self.assertEqual(len(again.stdout.splitlines()), 5)
         self.assertIn("remarked.acl:9  topic write plant/+/state\n      repeats line 8\n",
                       done.stdout)
 

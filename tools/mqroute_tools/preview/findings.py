@@ -7,6 +7,7 @@ from ..losses.findings import Place, Totals
 from ..script.access_list import Line
 from .gathered_topics import Topics
 from .in_force import Check
+from .reload import Reload
 from .script_facts import ScriptFacts
 
 Json = dict[str, Any]
@@ -161,6 +162,7 @@ class Preview:
     not_asked: list[str]  # users whose rights aren't known
     facts: ScriptFacts = field(default_factory=ScriptFacts)
     check: Check | None = None  # whether the current list was in force; None: a script was given
+    reload: Reload = field(default_factory=lambda: Reload(""))  # of the proposed list
     could_keep: bool = False  # whether with --keep the causes would have commands
     plan: str | None = None
     carried: list[Carried] = field(default_factory=list)
@@ -200,6 +202,7 @@ class Preview:
                 "subscriptions": [one.json() for one in self.subscriptions],
                 "remarks": as_objects(self.remarks), "notes": self.notes,
                 "not_asked": self.not_asked,
+                "reload": self.reload.words(),
                 **by_plan, "totals": self.totals(), "summary": summary}
 
 

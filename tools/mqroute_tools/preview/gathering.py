@@ -23,6 +23,7 @@ from .findings import (
 from .in_force import Check, NoAnswer, judged, not_asked_for
 from .kept_folder import AFTER, BEFORE, CHECKED, NEW, SCRIPT
 from .plan_losses import PlanLosses
+from .reload import reload_of
 from .renaming import Renaming, plan_file
 from .script_facts import ScriptFacts, facts_of
 from .sources import Script, script_of, sources_of
@@ -213,6 +214,7 @@ def put_together(options: argparse.Namespace, lists: Lists, script: Script,
         later_name(options, script), differences.users, differences.refused, granted, taken,
         answers.subscriptions, answers.remarks, differences.totals, answers.notes,
         answers.not_asked)
+    found.reload = reload_of(options.proposed)
     found.facts = facts_of(script.path, wanted_lines(found.causes()))
     say_of(found.facts, script)
     publishes = {line: line for line in found.facts.wanted_publishes}

@@ -59,6 +59,7 @@ def parts(found: Preview, title: str) -> Iterator[str]:
         yield section(CARRIED, rows.carried())
     if found.remarks:
         yield section(f"New remarks on {file(found.proposed)}", rows.remarks())
+    yield f"<p id='reload'>{escaped(found.reload.words())}</p>\n"
     yield f"<p id='summary'>{escaped(summary(found))}</p>\n{ENDING}"
 
 

@@ -57,7 +57,7 @@ class Report:
             parts += ["\n".join([self.out.painted(BOLD, title), *body])] if body else []
         if found.could_keep and found.causes():
             parts.append("\n".join(self.dim(KEEP_HINT, "", "")))
-        parts.append(summary(found))
+        parts += ["\n".join(self.out.wrapped(found.reload.words())), summary(found)]
         return "\n\n".join(parts) + "\n"
 
     def head(self) -> str:
