@@ -61,7 +61,8 @@ class OfALog(unittest.TestCase):
                 ("different", PUBLISH + sent("b", 1, 0)),
                 ("different", PUBLISH, ("b", 1, False, None)),
                 # of one for each subscription some were dropped, as where a queue is full
-                ("different", PUBLISH + sent("b", 1, 0), ("b", 1, False, None), ("b", 1, False, None)),
+                ("different", PUBLISH + sent("b", 1, 0), ("b", 1, False, None),
+                 ("b", 1, False, None)),
         ):
             self.assertEqual(self.kinds(log, *copies), [kind], log)
 

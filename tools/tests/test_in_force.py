@@ -112,6 +112,7 @@ class InForce(Case):
     def test_a_log_without_messages(self):
         self.write("few.log", without(self.log, "Sending ", "Received ", "Denied "))
         self.assertEqual(self.said("plain.acl", "proposed.acl", "few.log"), [
+            "2 of 2 users that plain.acl names don't connect in this log: ops, plant manager",
             "no answer about messages: this log has none: set log_type all in mosquitto.conf, "
             "reload the broker, and wait a day", ""])
 

@@ -9,10 +9,11 @@ from worked import HERE
 
 PACKAGE = HERE / "mqroute_tools"
 # each folder, with those that it may import from
-BELOW = {"common": set(), "script": {"common"}, "log": {"common", "script"},
+BELOW = {"common": set(), "script": {"common"}, "conf": {"common"},
+         "log": {"common", "script"},
          "plan": {"common", "script"},
          "losses": {"common", "script", "plan"}, "why": {"common", "script", "log"},
-         "preview": {"common", "script", "log", "plan", "losses"},
+         "preview": {"common", "script", "conf", "log", "plan", "losses"},
          "live": {"common", "script"}, "search": {"common", "script", "live"}}
 
 

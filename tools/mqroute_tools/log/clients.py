@@ -91,11 +91,12 @@ def covers(name: str, topic: str) -> bool:
 
 class Arrival:
     """A connect of which the client id is known for certain only from the CONNACK that follows."""
-    __slots__ = ("place", "text", "will", "will_head", "websocket", "bridge")
+    __slots__ = ("place", "text", "will", "will_head", "websocket", "bridge", "port")
 
-    def __init__(self, place: int, text: str, websocket: bool = False,
-                 bridge: bool = False) -> None:
+    def __init__(self, place: int, text: str, websocket: bool = False, bridge: bool = False,
+                 port: int = 0) -> None:
         self.place, self.text, self.websocket, self.bridge = place, text, websocket, bridge
+        self.port = port  # of the listener, where the log has it
         self.will: Command | None = None
         self.will_head: re.Match[str] | None = None
 

@@ -1,4 +1,5 @@
 """From the lines of a mosquitto log to the commands of a script."""
+from collections import Counter
 from collections.abc import Callable, Iterable, Iterator
 from itertools import chain, islice
 from typing import BinaryIO
@@ -22,7 +23,8 @@ class Converter(Subscribing):
         self.stamps = Stamps(form)
         self.latest: log.Publish | None = None  # the last that a client sent
         # that connected over TCP: the broker has no such line of a websocket
-        self.addresses: dict[str, None] = {}
+        self.addresses: dict[str, str] = {}
+        self.ports: Counter[int] = Counter()  # of the listeners, by connections
         self.sys_topics: set[str] = set()  # below $SYS/, that clients publish
         # who sent DISCONNECT and has a will, and where the broker showed the end
         self.parting: tuple[str, int] | None = None
@@ -142,7 +144,8 @@ class Converter(Subscribing):
 
     def reached(self, rest: str) -> bool:
         """`New connection from ADDRESS on port N.`"""
-        self.addresses[rest.partition(" ")[0]] = None
+        address, _, behind = rest.partition(" ")
+        self.addresses[address] = behind
         if len(self.addresses) > ADDRESSES:
             del self.addresses[next(iter(self.addresses))]
         return True
@@ -153,9 +156,9 @@ class Converter(Subscribing):
             return False
         address, found, name = text[26:].partition(" as ")
         self.finish()
-        websocket = address not in self.addresses
-        self.addresses.pop(address, None)
-        self.arrival = Arrival(self.place, name, websocket, text.startswith("New bridge"))
+        behind = self.addresses.pop(address, None)
+        self.arrival = Arrival(self.place, name, behind is None, text.startswith("New bridge"),
+                               port_of(behind or ""))
         return bool(found)
 
     def noted(self, text: str) -> bool:
@@ -285,6 +288,8 @@ class Converter(Subscribing):
         if about is None:
             return False
         protocol, clean, user = int(about[1]), about[2] == "1", about[3]
+        if arrival.port:
+            self.ports[arrival.port] += 1
         self.connect(arrival, client, user, clean, protocol, found[2] == "1")
         return True
 
@@ -361,6 +366,12 @@ class Converter(Subscribing):
         super().end(client, willed)
         if self.packet and self.packet[1] == client:
             self.packet = self.asked = None
+
+
+def port_of(text: str) -> int:
+    """Of `on port 1883.`; 0 where there is none."""
+    digits = text.removeprefix("on port ").removesuffix(".")
+    return int(digits) if log.is_number(digits) else 0
 
 
 def placed_commands(converter: Converter,

@@ -7,11 +7,12 @@ from contextlib import contextmanager
 from typing import IO
 
 from . import mosquitto_log as log
+from .clients import Arrival
 from .comparison import Comparison
 from .inference import Beginning
 from .log_files import Logs
 from .log_to_script import text_of
-from .script_writer import Writer, read_logs
+from .script_writer import Makes, Writer, read_logs
 from .step_reader import Watcher, answered, steps
 from .steps import Step
 
@@ -26,6 +27,9 @@ class Recorder(Watcher):
         self.incoming = 0  # publishes that clients sent
         # lines at which the broker read its configuration again, or began anew
         self.reread: list[int] = []
+        self.restarts: list[int] = []
+        self.begins_anew = False  # whether the log begins with the broker's start
+        self.users: set[str] = set()  # of clients that connect
         super().__init__(session_expiry, form, begins)
 
     def explain(self, client: str, topic: str) -> None:
@@ -45,7 +49,20 @@ class Recorder(Watcher):
     def start(self) -> None:
         if self.incoming:
             self.reread.append(self.place)
+            self.restarts.append(self.place)
+        elif not self.seen_before:
+            self.begins_anew = True
         super().start()
+
+    def connect(self, arrival: Arrival, client: str, user: str | None, clean: bool, protocol: int,
+                present: bool) -> None:
+        if user:
+            self.users.add(user)
+        super().connect(arrival, client, user, clean, protocol, present)
+
+    def shows_all(self) -> bool:
+        """Whether nothing older than the log matters."""
+        return self.begins.fresh or (self.begins_anew and not self.seen_before)
 
 
 class KeptSteps:
@@ -76,7 +93,7 @@ class KeptSteps:
                     return
 
 
-def record(wanted: type[Recorder], options: argparse.Namespace, logs: Logs, out: IO[bytes],
+def record(wanted: "Makes[Recorder]", options: argparse.Namespace, logs: Logs, out: IO[bytes],
            kept: KeptSteps) -> tuple[Recorder, int]:
     """Writes the commands of the logs to one file of its own, and the steps to another; gives what
     read them, and how many commands they are."""

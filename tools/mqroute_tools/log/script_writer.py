@@ -155,6 +155,7 @@ class Writer(Converter):
 
 Kind = TypeVar("Kind", bound=Writer)
 Result = TypeVar("Result")
+Makes = Callable[[int | None, str | None, Beginning], Kind]
 
 
 def read_state(name: str | None) -> State:
@@ -173,7 +174,7 @@ def read_state(name: str | None) -> State:
     return state
 
 
-def read_logs(wanted: type[Kind], options: argparse.Namespace, logs: Logs,
+def read_logs(wanted: Makes[Kind], options: argparse.Namespace, logs: Logs,
               work: Callable[[Kind], Result], follow: bool = False,
               again: bool = True) -> tuple[Kind, Result]:
     """A writer of the logs, and what `work` makes of them by it.

@@ -162,6 +162,8 @@ class Preview:
     not_asked: list[str]  # users whose rights aren't known
     facts: ScriptFacts = field(default_factory=ScriptFacts)
     check: Check | None = None  # whether the current list was in force; None: a script was given
+    said: list[str] = field(default_factory=list)  # of what the answer is, and leaves out
+    conf: Json | None = None  # the configuration, and what is in force by it
     reload: Reload = field(default_factory=lambda: Reload(""))  # of the proposed list
     could_keep: bool = False  # whether with --keep the causes would have commands
     plan: str | None = None
@@ -193,6 +195,7 @@ class Preview:
         by_plan = {"plan": self.plan, "carried": as_objects(self.carried)} if self.plan else {}
         return {"current": self.current, "proposed": self.proposed, "sources": self.sources,
                 "rules": self.rules, "in_force": self.check and self.check.json(),
+                "conf": self.conf, "said": self.said,
                 "clients": self.facts.clients,
                 "publishes": self.facts.publishes,
                 "users": [row.json() for row in self.users],

@@ -5,11 +5,11 @@ import os
 from dataclasses import dataclass
 from pathlib import Path
 
-from ..common.files import at
-from ..common.messages import named, note, say
+from ..common.files import at, plain_file
+from ..common.messages import counted, named, note, say
 from ..common.programs import output_of
 from ..common.progress import Progress
-from ..log.recording import compared as compared_with_log
+from ..log.recording import Recorder, compared as compared_with_log
 from ..losses import acl_verdicts
 from ..losses.comparison import Losses, compare, findings
 from ..losses.findings import Totals
@@ -18,10 +18,12 @@ from ..plan.topic_plan import read_plan
 from ..script.access_list import AccessList
 from ..script.oracle import found_program
 from .acl_answers import Lists
+from .by_conf import ByConf
 from .findings import (
     GAINED, LOST, Cause, Preview, RefusedRow, Remark, Right, Subscription, UserRow)
 from .in_force import Check, NoAnswer, judged, not_asked_for
 from .kept_folder import AFTER, BEFORE, CHECKED, NEW, SCRIPT
+from .list_rows import rows_of
 from .plan_losses import PlanLosses
 from .reload import reload_of
 from .renaming import Renaming, plan_file
@@ -34,6 +36,7 @@ STEPS = ("comparing the lists", "looking for remarks", "reading what clients did
          "trying the current list", "looking whether it was in force", "looking at subscriptions",
          "trying the proposed list", "comparing what was delivered")
 BY_PLAN = *STEPS[:3], "renaming topics", *STEPS[3:]
+MOST_USERS = 8  # that are named
 
 
 class Steps:
@@ -89,6 +92,7 @@ def gathered(options: argparse.Namespace, folder: Path, steps: Steps) -> Preview
     answers = asked_first(lists, steps)
     steps.next()
     script = script_of(options, sources, folder, steps.clear)
+    lists = tried_by(options, lists, script)
     lists.names[script.path] = script.name
     renaming = None
     if plan is not None:
@@ -101,7 +105,7 @@ def gathered(options: argparse.Namespace, folder: Path, steps: Steps) -> Preview
     steps.next()
     check = checked(options, lists, script, renaming, folder)
     if check and not check.has_answer():
-        raise NoAnswer(check)
+        raise NoAnswer(check, said_of(options, script))
     steps.next()
     answers.subscriptions = receiving_nothing(lists, scripts, renaming)
     steps.next()
@@ -112,8 +116,46 @@ def gathered(options: argparse.Namespace, folder: Path, steps: Steps) -> Preview
                    compared_by_plan(lists, renaming, before, after))
     steps.clear()
     found = put_together(options, lists, script, renaming, answers, differences)
-    found.check = check
+    found.check, found.said = check, said_of(options, script)
+    found.conf = options.by_conf and options.by_conf.json()
+    if options.by_conf:
+        options.by_conf.leave_out(found)
     return found
+
+
+def said_of(options: argparse.Namespace, script: Script) -> list[str]:
+    """Of what the answer is: without a configuration, that listeners may have their own lists."""
+    by_conf: ByConf | None = options.by_conf
+    if script.reading is None:
+        return []
+    users = absent_users(options.current, script.reading.reader)
+    if by_conf or len(script.reading.reader.ports) < 2:
+        return [*(by_conf.said if by_conf else []), *users]
+    ports = " and ".join(f"{port} ({counted(number, 'connections', ',')})"
+                         for port, number in sorted(script.reading.reader.ports.items()))
+    return [f"clients came by the ports {ports}: each may have a list of its own "
+            "(per_listener_settings). This answer is of one list for all of them: --conf reads "
+            "which there are", *users]
+
+
+def absent_users(name: str, reader: Recorder) -> list[str]:
+    """That some whom the current list names don't connect in the log."""
+    if plain_file(name) is None:
+        return []
+    users = list(dict.fromkeys(row.user for row in rows_of(name, name) if row.user))
+    absent = [user for user in users if user not in reader.users]
+    more = f" and {len(absent) - MOST_USERS:,} more" if len(absent) > MOST_USERS else ""
+    return [f"{len(absent):,} of {counted(len(users), 'users', ',')} that {named(name)} names "
+            f"don't connect in this log: {', '.join(absent[:MOST_USERS])}{more}"] if absent else []
+
+
+def tried_by(options: argparse.Namespace, lists: Lists, script: Script) -> Lists:
+    """Under which the script is tried: by a configuration each client under its own listener's."""
+    by_conf: ByConf | None = options.by_conf
+    if by_conf is None or script.reading is None:
+        return lists
+    by_conf.read(script.reading.reader)
+    return by_conf.tried(options.proposed) or lists
 
 
 def checked(options: argparse.Namespace, lists: Lists, script: Script, renaming: Renaming | None,
@@ -122,7 +164,7 @@ def checked(options: argparse.Namespace, lists: Lists, script: Script, renaming:
     name = named(lists.current.name)
     if not script.is_made:
         return None
-    if script.reading is None:
+    if script.reading is None or options.no_check:
         return not_asked_for(name)
     output = folder / BEFORE
     if renaming is not None:  # that run has the script under other lines
@@ -130,7 +172,9 @@ def checked(options: argparse.Namespace, lists: Lists, script: Script, renaming:
         run(options, lists, lists.current, script.path, output)
     reading = script.reading
     found = compared_with_log(reading.steps, str(output))
-    return judged(name, found, reading.reader, reading.logs.where, lambda _: False)
+    by_conf: ByConf | None = options.by_conf
+    return judged(name, found, reading.reader, reading.logs.where,
+                  by_conf.sets_aside if by_conf else lambda _: False)
 
 
 def receiving_nothing(lists: Lists, scripts: tuple[str, str],

@@ -92,7 +92,8 @@ def checked(found: Preview) -> str:
         return ""
     said = " ".join(line.strip() for line in found.check.lines())
     kind = "check" if found.check.holds() else "check loss"
-    return f"<p class='{kind}'>{escaped(said)}</p>\n"
+    return f"<p class='{kind}'>{escaped(said)}</p>\n" + (
+        listed(found.said, "said") if found.said else "")
 
 
 def verdict_of(found: Preview) -> str:

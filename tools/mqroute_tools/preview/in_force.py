@@ -82,9 +82,15 @@ class Check:
 class NoAnswer(Fault):
     """It isn't the list in force, or that isn't known: nothing would be said of this broker."""
 
-    def __init__(self, check: Check) -> None:
-        super().__init__(check.lines()[0])
-        self.check = check
+    def __init__(self, check: Check, said: list[str]) -> None:
+        super().__init__(check.in_words())
+        self.check, self.said = check, said
+
+    def lines(self) -> list[str]:
+        """That a log has nothing comes last, where it isn't lost."""
+        if self.check.state == NO_COPIES:
+            return [*self.said, *self.check.lines()]
+        return [*self.check.lines(), *self.said]
 
 
 def not_asked_for(lists: str) -> Check:
@@ -134,7 +140,7 @@ def doubt(check: Check, first: int, reader: Recorder, where: Callable[[int], str
                 f"stand behind {where(reread[-1])}, where the broker read its configuration again: "
                 "the list may have been changed there. Give the log behind it, with what was "
                 "before (--begin)")
-    if not reader.begins.fresh:
+    if not reader.shows_all():
         return (f"{check.differ:,} of {counted(check.copies, 'copies', ',')} differ, first at "
                 f"{check.first}, and the log begins in the middle: what was before it isn't known")
     return ""

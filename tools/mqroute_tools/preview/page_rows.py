@@ -156,7 +156,9 @@ def decider(name: str, line: Line | None, none: str = NO_LINE) -> str:
 
 
 def place(name: str, line: Line | None) -> str:
-    return f"<bdi>{escaped(named(name) if line is None else at(name, line.line))}</bdi>"
+    if line is None:
+        return f"<bdi>{escaped(named(name))}</bdi>"
+    return f"<bdi>{escaped(at(line.file, line.line) if line.line else line.file)}</bdi>"
 
 
 def line_text(line: Line | None, none: str) -> str:

@@ -17,7 +17,7 @@ from typing import TYPE_CHECKING
 
 from ..common.exit_status import FAILED, UsageFault
 from ..common.files import keep_apart, refuse_stdin_twice
-from ..common.option_values import whole_number
+from ..common.option_values import port, whole_number
 from ..common.terminal import standard_output
 from ..common.texts import json_text
 from ..log.options import add_log_options
@@ -25,7 +25,7 @@ from ..script.oracle import RULES
 from . import kept_folder
 
 if TYPE_CHECKING:
-    from .in_force import Check
+    from .in_force import NoAnswer
     from .not_taken import NotTaken
 
 MOST = 4_294_967_295
@@ -34,10 +34,16 @@ MOST = 4_294_967_295
 def add_arguments(parser: argparse.ArgumentParser) -> None:
     parser.description = ("Shows what a proposed access list would change, tried on a log or a "
                           "script.")
-    parser.add_argument("current", help="the access list that is in force, or -: standard input")
-    parser.add_argument("proposed", help="the list in its place")
-    parser.add_argument("source", nargs="+", metavar="log-or-script",
-                        help="a script for mqroute, or mosquitto logs that follow one another")
+    parser.add_argument("current", help="the access list that is in force, or -: standard input. "
+                        "With --conf it is left out")
+    parser.add_argument("proposed", nargs="?", help="the list in its place")
+    parser.add_argument("source", nargs="*", metavar="log-or-script",
+                        help="a script for mqroute, or mosquitto logs that follow one another. "
+                        "With --conf logs, or those that it names")
+    parser.add_argument("--conf", metavar="FILE", help="a mosquitto.conf, which says what is in "
+                        "force: lists, listeners, the log and more")
+    parser.add_argument("--port", type=port, metavar="N", help="with --conf: the listener whose "
+                        "list PROPOSED replaces, where they have different ones")
     parser.add_argument("--rules", choices=RULES,
                         help="by whose rules lists are read, and decide (own)")
     parser.add_argument("--plan", metavar="PLAN", help="topics are renamed by this plan, and "
@@ -55,10 +61,20 @@ def add_arguments(parser: argparse.ArgumentParser) -> None:
 
 
 def check(options: argparse.Namespace) -> None:
-    """Refuses arguments that don't go together, and a file that is read and written."""
+    """Refuses arguments that don't go together, and a file that is read and written. What a
+    configuration says is put in their place."""
+    options.by_conf = None
+    if options.conf is not None:
+        from .by_conf import prepare  # takes time to load
+        options.by_conf = prepare(options)
+    elif options.port is not None:
+        raise UsageFault("--port needs --conf")
+    elif not options.source:
+        raise UsageFault("needs CURRENT, PROPOSED, and a script or logs; or --conf and PROPOSED")
     if options.title is not None and options.html is None:
         raise UsageFault("--title needs --html")
-    read = [options.current, options.proposed, *options.source, options.begin, options.plan]
+    read = [options.current, options.proposed, *options.source, options.begin, options.plan,
+            options.conf]
     refuse_stdin_twice(read)
     keep_apart(read, {"--html": options.html})
     names = kept_folder.NAMES if options.plan is None else kept_folder.ALL_NAMES
@@ -80,7 +96,7 @@ def run(options: argparse.Namespace) -> int:
         say_not_taken(options, fault.lines)
         raise
     except NoAnswer as fault:
-        say_no_answer(options, fault.check)
+        say_no_answer(options, fault)
         return FAILED
 
 
@@ -95,16 +111,18 @@ def say_not_taken(options: argparse.Namespace, lines: list["NotTaken"]) -> None:
         write(not_taken.as_text(lines))
 
 
-def say_no_answer(options: argparse.Namespace, check: "Check") -> None:
+def say_no_answer(options: argparse.Namespace, fault: "NoAnswer") -> None:
     from . import html_page, no_answer_page
+    check, lines = fault.check, fault.lines()
     if options.html is not None:
-        no_answer_page.write(options.html, check, html_page.title_of(options))
+        no_answer_page.write(options.html, fault, html_page.title_of(options))
     if options.json:
         found = {"current": options.current, "proposed": options.proposed,
-                 "in_force": check.json(), "summary": check.in_words()}
+                 "in_force": check.json(), "conf": options.by_conf and options.by_conf.json(),
+                 "said": fault.said, "summary": check.in_words()}
         write(json_text(found, indent=1) + "\n")
     else:
-        write("".join(line + "\n" for line in check.lines()))
+        write("".join(line + "\n" for line in lines))
 
 
 def write(text: str) -> None:

@@ -72,6 +72,8 @@ def sources_of(options: argparse.Namespace, folder: Path) -> list[Source]:
     if any(one.is_script for one in sources):
         if len(sources) > 1:
             raise UsageFault("needs one script, or one log or more")
+        if options.conf is not None:
+            raise UsageFault("--conf needs a log")
         for name in given_options(options):
             raise UsageFault(f"{name} needs a log")
     return sources
@@ -98,10 +100,11 @@ def made(options: argparse.Namespace, sources: list[Source], folder: Path,
     path, steps, reading = folder / SCRIPT, KeptSteps(str(folder / STEPS)), None
     found: Writer
     with open(path, "xb") as out:
-        if options.no_check:
+        if options.no_check and options.by_conf is None:
             found, written = write_script(options, logs, out)
         else:
-            found, written = record(Recorder, options, logs, out, steps)
+            wanted = options.by_conf.recorder() if options.by_conf else Recorder
+            found, written = record(wanted, options, logs, out, steps)
             reading = Reading(found, steps, logs)
     before_notes()
     sum_up(found, logs, written)

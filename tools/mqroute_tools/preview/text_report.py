@@ -37,7 +37,7 @@ class Report:
 
     def text(self) -> str:
         found = self.found
-        parts = [self.check(), self.head()] if found.check else [self.head()]
+        parts = [self.check(), self.head()] if found.check or found.said else [self.head()]
         sections: list[tuple[str, Iterator[str]]] = [
             ("Who loses, who gains, of the messages delivered",
              self.first(found.users, self.user)),
@@ -68,8 +68,9 @@ class Report:
             f"{tried(found)}"))
 
     def check(self) -> str:
-        """Whether the current list was in force."""
+        """Whether the current list was in force, and of what the answer is."""
         lines = self.found.check.lines() if self.found.check else []
+        lines += self.found.said
         return "\n".join(part for line in lines for part in self.out.wrapped(line))
 
     def not_asked(self, user: str) -> list[str]:
@@ -201,4 +202,5 @@ def arrow(new: str | None) -> str:
 def side(name: str, line: Line | None, none: str = NO_LINE) -> tuple[str, str]:
     if line is None:
         return shown(named(name)), none
-    return at(shown(name), line.line), shown(line.text.strip())
+    place = shown(named(line.file))
+    return at(place, line.line) if line.line else place, shown(line.text.strip())

@@ -1,0 +1,54 @@
+"""The lines of an access list of which mosquitto takes each, as it reads them."""
+from dataclasses import dataclass
+from pathlib import Path
+
+from ..common.files import decoded
+from ..script.access_list import Line
+
+ACCESSES = ("read", "write", "readwrite", "deny")
+BLANKS = " \t\v\f\r"  # that are taken off the end of a line
+
+
+@dataclass(frozen=True)
+class Row:
+    """A `topic` or `pattern` line."""
+    file: str
+    line: int
+    text: str
+    is_pattern: bool
+    user: str | None  # above it; of a pattern nobody's
+    access: str
+    filter: str
+
+    def shown(self) -> Line:
+        return Line(self.file, self.line, self.text)
+
+    def denies(self) -> bool:
+        return self.access == "deny"
+
+
+def rows_of(path: str, name: str) -> list[Row]:
+    """Of the list in this file, which is shown under the name."""
+    found, user = [], None
+    text = decoded(Path(path).read_bytes(), name)
+    for number, whole in enumerate(text.split("\n"), 1):
+        line = whole.rstrip(BLANKS)
+        word, _, rest = line.partition(" ")
+        if line.startswith("#") or not line:
+            continue
+        if word == "user":
+            user = rest.strip(BLANKS)
+            continue
+        access, filter_ = access_and_filter(rest.lstrip(" "))
+        is_pattern = word == "pattern"
+        found.append(Row(name, number, whole, is_pattern, None if is_pattern else user, access,
+                         filter_))
+    return found
+
+
+def access_and_filter(rest: str) -> tuple[str, str]:
+    """A word alone is the filter."""
+    access, blank, wanted = rest.partition(" ")
+    if blank and access in ACCESSES:
+        return access, wanted.lstrip(" ")
+    return "readwrite", rest
