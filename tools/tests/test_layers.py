@@ -9,7 +9,7 @@ from worked import HERE
 
 PACKAGE = HERE / "mqroute_tools"
 # each folder, with those that it may import from
-BELOW = {"common": set(), "script": {"common"}, "conf": {"common"},
+BELOW = {"common": set(), "conf": {"common"}, "script": {"common", "conf"},
          "log": {"common", "script"},
          "plan": {"common", "script"},
          "losses": {"common", "script", "plan"}, "why": {"common", "script", "log"},

@@ -12,6 +12,13 @@ EMQX = "2026-11-26T10:00:00.123456+00:00 [info] msg: client_connected, clientid:
 SYSLOG = "Nov 24 18:40:00 host systemd[1]: Started Session 1 of user root.\n"
 LIST = "# meters\nuser meter\ntopic write plant/#\n"
 ARRAY = "[\n" + '  {"do":"connect","client":"a"},\n' * 50 + "]\n"
+HASH = "7$101$SALTSALT$HASHHASH"
+SECRETS = {  # nothing of them is shown
+    f"# users\n\nops:${HASH}==\nplc:$6$x$y\n": "a password file of mosquitto's",
+    '{\n"defaultACLAccess":{"publishClientSend":false},"clients":[{"password":"%s"}]}\n' % HASH:
+    "mosquitto's dynamic security",
+    f"# a broker\nlistener 1883\nacl_file acl\npassword {HASH}\n": "a mosquitto.conf"}
+EMQX_LIST = '%% comment\n{allow, {user, "dashboard"}, subscribe, ["$SYS/#"]}.\n{deny, all}.\n'
 ODD_TIMES = A_LOG.replace("1795358535", "24.11. 18:40").replace("1795358536", "24.11. 18:41")
 
 
@@ -26,7 +33,10 @@ class Kinds(unittest.TestCase):
                            (BEFORE, "an output of mqroute"),
                            (ARRAY, "JSON"), ('{"time":1}\n', "JSON"), (LIST, "an access list"),
                            (SYSLOG, "a log of other programs"), (EMQX, "a log of other programs"),
-                           ("", ""), ("x" * 1000, "")):
+                           ("user root\nlistener 1\n", "an access list"),
+                           (EMQX_LIST.partition("\n")[2], "an access list of EMQX"),
+                           ("listening on 1883\n", ""), ("log_type all\nsomething\n", ""),
+                           *SECRETS.items(), ("", ""), ("x" * 1000, "")):
             self.assertEqual(kind(text.encode()), what, text)
         self.assertEqual(kind(gzip.compress(b"x")), "a file packed by gzip")
         self.assertEqual(kind("x\n".encode("utf-16")), "text in UTF-16")
@@ -66,6 +76,14 @@ class Logs(Case):
                      "its lines begin with")
         self.refuses("", "empty: no line is read as mosquitto's\n")
         self.refuses(gzip.compress(b""), "empty: no line is read as mosquitto's\n")
+
+    def test_secrets(self):
+        for text, what in SECRETS.items():
+            said = f"no line is read as mosquitto's: looks like {what} (nothing of it is shown)\n"
+            self.refuses(text, said)
+            (self.folder / "script").write_text(text)
+            done = self.run_tool("check", "script")
+            self.assertNotIn("HASH", done.stdout + done.stderr)
 
     def test_a_log_without_a_command_is_one(self):
         self.write("log", "1795358535: mosquitto version 2.0.11 starting\n"

@@ -14,6 +14,7 @@ from ..conf.reading import read_conf
 from ..log.recording import Recorder
 from ..log.report_line import Line
 from ..losses.findings import Json
+from ..script.file_kinds import ACCESS_LIST, CONF, HEAD, kind, wrong
 from .findings import Preview
 from .in_force import Found
 from .list_rows import rows_of
@@ -134,6 +135,7 @@ def prepare(options: argparse.Namespace) -> ByConf:
         raise UsageFault("--conf goes by mosquitto's rules")
     if options.plan is not None:
         raise UsageFault("--plan goes by mqroute's own rules, and --conf by mosquitto's")
+    refuse_other_file(options.conf)
     conf = read_conf(options.conf)
     refuse_dead_list(conf)
     proposed, *logs = [one for one in (options.current, options.proposed) if one is not None]
@@ -157,6 +159,15 @@ def prepare(options: argparse.Namespace) -> ByConf:
     if options.max_queued is None:
         options.max_queued = conf.max_queued()
     return found
+
+
+def refuse_other_file(name: str) -> None:
+    """Raises Fault where it looks like something else: nothing of a password file is to be shown."""
+    with open(name, "rb") as stream:
+        head = stream.read(HEAD)
+    # the first word of both may be `user`
+    if kind(head) not in ("", CONF, ACCESS_LIST):
+        raise wrong(name, head, "not a mosquitto.conf")
 
 
 def path_of(conf: Conf, listener: Listener) -> str | None:

@@ -5,6 +5,7 @@ import re
 from ..common.exit_status import Fault
 from ..common.messages import named
 from ..common.texts import escaped, lines as lines_of
+from ..conf.words import is_word
 from .syslog import PREFIX
 
 HEAD = 1 << 14  # bytes that are looked at
@@ -34,6 +35,14 @@ SOMEWHERE = re.compile(rf"(?:^|: |\s){MOSQUITTO}", re.M)
 LIST = re.compile(r"(?:topic|user|pattern) +\S")
 
 LOG = "a mosquitto log"
+ACCESS_LIST, CONF = "an access list", "a mosquitto.conf"
+PASSWORDS, DYNAMIC = "a password file of mosquitto's", "mosquitto's dynamic security"
+PASSWORD = re.compile(r"[^:\s]+:\$[67]\$")  # as mosquitto_passwd writes a line
+DYNAMIC_WORDS = ('"defaultACLAccess"', '"roles"')
+EMQX = re.compile(r"\{(?:allow|deny),")
+SHOWN_LINES = 3  # of which the first words are looked at
+# What may have passwords: nothing of it is shown.
+SECRETS = {PASSWORDS, DYNAMIC, CONF}
 BINARY = ((b"\x1f\x8b", "a file packed by gzip"), (b"BZh", "a file packed by bzip2"),
           (b"\xfd7zXZ\0", "a file packed by xz"), (b"\x28\xb5\x2f\xfd", "a file packed by zstd"),
           (b"PK\x03\x04", "a file packed by zip"), (b"\xff\xfe", "text in UTF-16"),
@@ -73,13 +82,28 @@ def kind(head: bytes) -> str:
     if not lines:
         return ""
     plain = [line for line in lines if not line.lstrip().startswith(COMMENTS)]
+    if plain and of_mosquitto(plain, text):
+        return of_mosquitto(plain, text)
     if plain and of_json(plain[0]):
         return of_json(plain[0])
     if SOMEWHERE.search(text):
         return LOG
     if PREFIX.match(lines[0]):
         return "a log of other programs"
-    return "an access list" if plain and LIST.match(plain[0]) else ""
+    return ACCESS_LIST if plain and LIST.match(plain[0]) else ""
+
+
+def of_mosquitto(lines: list[str], text: str) -> str:
+    """Another of its files, or a list of another broker; `lines` are those without comments."""
+    if PASSWORD.match(lines[0]):
+        return PASSWORDS
+    if lines[0].startswith("{") and any(word in text for word in DYNAMIC_WORDS):
+        return DYNAMIC
+    if EMQX.match(lines[0]):
+        return "an access list of EMQX"
+    first = [line.split(" ")[0] for line in lines[:SHOWN_LINES]]
+    is_list = LIST.match(lines[0]) is not None
+    return CONF if not is_list and all(map(is_word, first)) else ""
 
 
 def first_line(head: bytes) -> str:
@@ -101,6 +125,8 @@ def wrong(name: str, head: bytes, lacks: str, hints: dict[str, str] = {}) -> Fau
     what = kind(head)
     if what in NO_TEXTS:
         return Fault(f"{name}: {lacks}: looks like {what}")
+    if what in SECRETS:
+        return Fault(f"{name}: {lacks}: looks like {what} (nothing of it is shown)")
     if not what:
         return Fault(f"{name}: {lacks}: its first line: {first_line(head)}")
     hint = f": {hints[what]}" if what in hints else ""
