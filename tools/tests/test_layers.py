@@ -10,9 +10,9 @@ from worked import HERE
 PACKAGE = HERE / "mqroute_tools"
 # each folder, with those that it may import from
 BELOW = {"common": set(), "conf": {"common"}, "script": {"common", "conf"},
-         "log": {"common", "script"},
+         "log": {"common", "conf", "script"},
          "plan": {"common", "script"},
-         "losses": {"common", "script", "plan"}, "why": {"common", "script", "log"},
+         "losses": {"common", "script", "plan"}, "why": {"common", "conf", "script", "log"},
          "preview": {"common", "script", "conf", "log", "plan", "losses"},
          "live": {"common", "script"}, "search": {"common", "script", "live"}}
 

@@ -5,6 +5,7 @@ from pathlib import Path
 
 from ..common.exit_status import Fault
 from .mosquitto_conf import Conf, Listener, Setting
+from .places import place_of
 
 NO_LISTENER = ("this acl_file is in force for no listener: per_listener_settings is true, and no "
                "listener stands above it in this file. The broker allows everything to everybody "
@@ -63,3 +64,16 @@ def left_out(conf: Conf) -> list[str]:
 def place_of_setting(conf: Conf, word: str) -> str:
     setting = conf.all.get(word)
     return setting.place() if setting else conf.path
+
+
+def only_list(conf: Conf) -> str | None:
+    """The list of all listeners, where it is here; none where they have none. Raises Fault where
+    they have different ones, or something else decides."""
+    refuse_dead_list(conf)
+    refuse_plugins(conf, conf.listeners)
+    settings = [conf.list_of(one) for one in conf.listeners]
+    names = {setting.value if setting else None for setting in settings}
+    if len(names) > 1:
+        raise Fault(f"{conf.path}: its listeners have different access lists: give --acl-file")
+    [name] = names
+    return None if name is None else place_of(conf.path, name)

@@ -7,12 +7,13 @@ Exit status: 0 none differs; 1 some do; 2 usage, a file, or an output that isn't
 import argparse
 import gc
 
+from ..common.exit_status import UsageFault
 from ..common.files import STDIN, keep_apart, plain_file, refuse_stdin_twice
 from ..common.messages import counted, say
 from ..common.second_process import ahead
 from .comparison import Comparison
 from .log_files import Logs
-from .options import add_log_options
+from .options import add_conf_option, add_log_options, logs_of
 from .script_writer import read_logs
 from .step_reader import Watcher, answered, steps
 
@@ -27,17 +28,21 @@ def compare(watcher: Watcher, logs: Logs, output: str) -> Comparison:
 def add_arguments(parser: argparse.ArgumentParser) -> None:
     parser.description = (
         "Compares a mosquitto log's own Sending PUBLISH lines with mqroute's copies.")
-    parser.add_argument("log", nargs="+", help="as for log_to_script.py, as are the options")
+    parser.add_argument("log", nargs="*", help="as for log_to_script.py, as are the options")
     parser.add_argument("output",
                         help="what mqroute wrote for the script that log_to_script.py makes of the "
                         "logs with the same options")
+    add_conf_option(parser, "the log and the form of its times")
     add_log_options(parser)
 
 
 def run(options: argparse.Namespace) -> int:
     # Next to nothing here refers to itself, and to look for it takes up to a tenth of the time.
     gc.disable()
-    files = [*options.log, options.output, options.begin]
+    options.log = logs_of(options, options.log)
+    if not options.log:
+        raise UsageFault("needs a log, or --conf")
+    files = [*options.log, options.output, options.begin, options.conf]
     refuse_stdin_twice(files)
     keep_apart(files)
     logs = Logs(options.log, not options.no_inference, options.time_format)

@@ -24,7 +24,7 @@ from ..script.output import Command
 from .clients import INFERRED, NONE, SEEN
 from .conversion import placed_commands
 from .log_files import Logs
-from .options import add_log_options
+from .options import add_conf_option, add_log_options, logs_of
 from .script_writer import Writer, read_logs
 
 raw_text = json.JSONEncoder(ensure_ascii=False).encode
@@ -71,6 +71,7 @@ def add_arguments(parser: argparse.ArgumentParser) -> None:
     parser.add_argument("log", nargs="*",
                         help="log files that follow one another, packed by gzip or not; "
                         "standard input if none, or -")
+    add_conf_option(parser, "the log and the form of its times")
     add_log_options(parser)
     parser.add_argument("--state", metavar="FILE",
                         help="write what stands at the end (clients, sessions, subscriptions, "
@@ -78,7 +79,8 @@ def add_arguments(parser: argparse.ArgumentParser) -> None:
 
 
 def run(options: argparse.Namespace) -> int:
-    files = [*(options.log or [STDIN]), options.begin]
+    options.log = logs_of(options, options.log)
+    files = [*(options.log or [STDIN]), options.begin, options.conf]
     refuse_stdin_twice(files)
     keep_apart(files, {"--state": options.state})
     logs = Logs(options.log, not options.no_inference, options.time_format)

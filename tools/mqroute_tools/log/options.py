@@ -3,10 +3,17 @@ import argparse
 import re
 from datetime import datetime
 
+from ..common.exit_status import Fault
+from ..common.messages import named
 from ..common.option_values import whole_number
 from ..common.texts import quoted
+from ..conf.limits import refuse_short_log
+from ..conf.mosquitto_conf import Conf
+from ..conf.places import place_of
+from ..script.conf_file import read_conf_file
 from ..script.sessions import FOREVER
 
+ISO = "%Y-%m-%dT%H:%M:%S"  # which is read without being named
 # as they stand in the options that argparse gives
 NAMES = ("time_format", "session_expiry", "no_inference", "begin")
 
@@ -42,3 +49,30 @@ def add_log_options(parser: argparse.ArgumentParser) -> None:
     parser.add_argument("--begin", metavar="FILE",
                         help="a script to begin with, such as what --state wrote for the log "
                         "before this one")
+
+
+def add_conf_option(parser: argparse.ArgumentParser, what: str) -> None:
+    parser.add_argument("--conf", metavar="FILE", help=f"a mosquitto.conf, which names {what}")
+
+
+def logs_of(options: argparse.Namespace, given: list[str]) -> list[str]:
+    """The logs that are given, or those of the configuration; its form of times is put in place of
+    an option that isn't given."""
+    if options.conf is None:
+        return given
+    return logs_by_conf(options, read_conf_file(options.conf), given)
+
+
+def logs_by_conf(options: argparse.Namespace, conf: Conf, given: list[str]) -> list[str]:
+    """Raises Fault where the configuration names none, or one that lacks what is needed."""
+    logs = given
+    if not logs:
+        refuse_short_log(conf)
+        logs = [place_of(conf.path, name) for name in conf.log_files()]
+    if not logs:
+        raise Fault(f"{named(conf.path)}: it names no log file (log_dest file): give a log, such "
+                    "as what journalctl -u mosquitto -o cat prints")
+    form = conf.all.text("log_timestamp_format", ISO)
+    if options.time_format is None and form != ISO:
+        options.time_format = form
+    return logs

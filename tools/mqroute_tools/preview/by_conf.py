@@ -7,20 +7,19 @@ from functools import partial
 
 from ..common.exit_status import Fault, UsageFault
 from ..common.messages import counted, named
-from ..conf.limits import left_out, refuse_dead_list, refuse_plugins, refuse_short_log
+from ..conf.limits import left_out, refuse_dead_list, refuse_plugins
 from ..conf.mosquitto_conf import Conf, Listener
 from ..conf.places import place_of
-from ..conf.reading import read_conf
+from ..log.options import logs_by_conf
 from ..log.recording import Recorder
 from ..log.report_line import Line
 from ..losses.findings import Json
-from ..script.file_kinds import ACCESS_LIST, CONF, HEAD, kind, wrong
+from ..script.conf_file import read_conf_file
 from .findings import Preview
 from .in_force import Found
 from .list_rows import rows_of
 from .listeners import OWN_BRIDGE, ClassLists, Classes, Listeners, Ported, Rows
 
-ISO = "%Y-%m-%dT%H:%M:%S"  # which is read without being named
 NO_LIST = "no list"
 
 
@@ -135,17 +134,10 @@ def prepare(options: argparse.Namespace) -> ByConf:
         raise UsageFault("--conf goes by mosquitto's rules")
     if options.plan is not None:
         raise UsageFault("--plan goes by mqroute's own rules, and --conf by mosquitto's")
-    refuse_other_file(options.conf)
-    conf = read_conf(options.conf)
+    conf = read_conf_file(options.conf)
     refuse_dead_list(conf)
     proposed, *logs = [one for one in (options.current, options.proposed) if one is not None]
-    logs += options.source
-    if not logs:
-        refuse_short_log(conf)
-        logs = [place_of(conf.path, name) for name in conf.log_files()]
-    if not logs:
-        raise Fault(f"{named(conf.path)}: it names no log file (log_dest file): give a log, such "
-                    "as what journalctl -u mosquitto -o cat prints")
+    logs = logs_by_conf(options, conf, [*logs, *options.source])
     paths = {one.port: path_of(conf, one) for one in conf.listeners}
     target = target_of(conf, paths, options.port, proposed)
     found = ByConf(conf, target, paths, None)
@@ -153,21 +145,9 @@ def prepare(options: argparse.Namespace) -> ByConf:
         found.classes = Classes(found.rows())
     options.current, options.proposed, options.source = paths[target.port], proposed, logs
     options.rules = "mosquitto"
-    form = conf.all.text("log_timestamp_format", ISO)
-    if options.time_format is None and form != ISO:
-        options.time_format = form
     if options.max_queued is None:
         options.max_queued = conf.max_queued()
     return found
-
-
-def refuse_other_file(name: str) -> None:
-    """Raises Fault where it looks like something else: nothing of a password file is to be shown."""
-    with open(name, "rb") as stream:
-        head = stream.read(HEAD)
-    # the first word of both may be `user`
-    if kind(head) not in ("", CONF, ACCESS_LIST):
-        raise wrong(name, head, "not a mosquitto.conf")
 
 
 def path_of(conf: Conf, listener: Listener) -> str | None:

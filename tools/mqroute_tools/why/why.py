@@ -13,8 +13,11 @@ from ..common.exit_status import UsageFault
 from ..common.files import at, keep_apart, refuse_stdin_twice
 from ..common.option_values import whole_number
 from ..common.texts import json_text
-from ..log.options import NAMES, add_log_options, given_options
+from ..conf.limits import only_list
+from ..log.options import (
+    NAMES, add_conf_option, add_log_options, given_options, logs_by_conf)
 from ..script.access_list import AccessList
+from ..script.conf_file import read_conf_file
 from ..script.oracle import RULES
 from .answering import answered
 from .causes import Answer, as_object, lines_of
@@ -40,12 +43,26 @@ def add_arguments(parser: argparse.ArgumentParser) -> None:
                         help="a log in place of SCRIPT and LINE; the options behind it go with it")
     parser.add_argument("--topic", help="that was published")
     parser.add_argument("--at", metavar="TIME", help="when that was, as it stands in the log")
+    add_conf_option(parser, "the list, the log and the form of its times")
     add_log_options(parser)
+
+
+def take_conf(options: argparse.Namespace) -> None:
+    """What it says, in place of options that aren't given."""
+    conf = read_conf_file(options.conf)
+    options.log = logs_by_conf(options, conf, options.log or [])
+    options.rules = options.rules or "mosquitto"
+    if options.acl_file is None:
+        options.acl_file = only_list(conf)
+    if options.max_queued is None:
+        options.max_queued = conf.max_queued()
 
 
 def look_at_options(options: argparse.Namespace) -> None:
     if options.client is not None and options.named is not None:
         raise UsageFault("--client can't be used with CLIENT")
+    if options.conf is not None:
+        take_conf(options)
     if options.log:
         if options.script is not None:
             raise UsageFault("--log can't be used with SCRIPT and LINE")
