@@ -8,7 +8,8 @@ import unittest
 import unittest.mock
 
 import worked  # noqa: F401  it knows where the tools are
-from mqroute_tools.common.terminal import GREEN, PLAIN, RED, Terminal, standard_output
+from mqroute_tools.common.terminal import (
+    GREEN, PLAIN, RED, YELLOW, Terminal, standard_output)
 from mqroute_tools.losses.findings import Place, Totals
 from mqroute_tools.preview.findings import (
     Cause, Client, Deciding, Preview, Right, Subscription, UserRow)
@@ -84,6 +85,24 @@ class Words(unittest.TestCase):
                          "would be granted. 1 subscription would get nothing any more.")
         self.assertEqual([one.rest for one in verdict(self.preview())],
                          ["Nothing would change for anybody."])
+
+    def test_new_rights_to_write_come_first(self):
+        """By the filter of the line that grants, and as a warning."""
+        def right(user: str | None, text: str) -> Right:
+            return Right("gained", "write", "x", Deciding(None, Line("new.acl", 1, text)),
+                         [Client(user, "id", ["id"])])
+        rights = [right("valmet", "topic write pm2/+/cmd"), right("b", "topic a b/#"),
+                  right(None, "pattern readwrite %c/#"), right("d", "topic x")]
+        found = self.preview(users=[UserRow("u", 1, 1, 1, 1)], granted=rights)
+        said = [(one.strong, one.rest, one.is_loss) for one in verdict(found)]
+        self.assertEqual(said[:4], [
+            ("user valmet", "may newly write topics of pm2/+/cmd.", True),
+            ("user b", "may newly write topics of a b/#.", True),
+            ("Clients without a user name", "may newly write topics of %c/#.", True),
+            ("", "So may others, by 1 more right.", True)])
+        self.assertEqual(said[-1][1], "4 new rights would be granted.")
+        painted = report(found, Terminal(60, True))
+        self.assertIn(f"{YELLOW}    may now write", painted)
 
     def test_without_a_user_name(self):
         found = self.preview(users=[UserRow(None, 2, 4, 3, 1)])

@@ -5,7 +5,8 @@ import sys
 import textwrap
 from dataclasses import dataclass
 
-RED, GREEN, DIM, BOLD, PLAIN = (f"\33[{code}m" for code in ("31", "32", "2", "1", "0"))
+RED, GREEN, YELLOW, DIM, BOLD, PLAIN = (
+    f"\33[{code}m" for code in ("31", "32", "33", "2", "1", "0"))
 
 
 @dataclass(frozen=True)

@@ -101,6 +101,9 @@ class Right:
     new_topic: str | None = None  # by a plan, with the rule that decides; None without one
     rule: Line | None = None
 
+    def is_new_write(self) -> bool:
+        return self.change == GAINED and self.access == "write"
+
     def json(self) -> Json:
         found = {"access": self.access, "topic": self.topic, **asdict(self.deciding),
                  "clients": [asdict(client) for client in self.clients]}

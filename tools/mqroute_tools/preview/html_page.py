@@ -37,7 +37,6 @@ def parts(found: Preview, title: str) -> Iterator[str]:
     yield beginning(escaped(title), STYLE)
     yield (f"<header><h1>{escaped(title)}</h1>\n{about(found)}{checked(found)}"
            f"{verdict_of(found)}</header>\n")
-    yield notes(found)
     for rights, name, head, grants in (
             (found.granted, "granted", "Newly allowed", (found.proposed, found.current)),
             (found.taken, "taken", "No longer allowed", (found.current, found.proposed))):
@@ -59,6 +58,7 @@ def parts(found: Preview, title: str) -> Iterator[str]:
         yield section(CARRIED, rows.carried())
     if found.remarks:
         yield section(f"New remarks on {file(found.proposed)}", rows.remarks())
+    yield notes(found)
     yield f"<p id='reload'>{escaped(found.reload.words())}</p>\n"
     yield f"<p id='summary'>{escaped(summary(found))}</p>\n{ENDING}"
 

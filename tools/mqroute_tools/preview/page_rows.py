@@ -93,7 +93,7 @@ class Rows:
         notes = client_of(one)
         more = f"<div class='placeholders'>{escaped(notes)}</div>" if notes else ""
         return row((head_cell(f"<bdi>{escaped(concerned(one, None))}</bdi>"),
-                    cell(may(one), f"may {one.change}"),
+                    cell(may(one), f"may {warning(one)}"),
                     cell(f"{example_of(one)}<code><bdi>{visible(topic_of(one))}</bdi></code>{more}",
                          "topic"),
                     cell(self.deciding(one.deciding, self.rule(one)), "lines")))
@@ -130,6 +130,11 @@ class Rows:
         where = "the list" if one.line is None else escaped(at(self.found.proposed, one.line))
         text = f"<code><bdi>{escaped((one.text or '').strip())}</bdi></code>" if one.text else ""
         return row((head_cell(f"<bdi>{where}</bdi>"), cell(text), cell(escaped(one.words))))
+
+
+def warning(right: Right) -> str:
+    """A new right to write is no gain to be glad of."""
+    return "warning" if right.is_new_write() else right.change
 
 
 def paint(what: str) -> str:

@@ -21,7 +21,7 @@ caption { text-align: left; color: var(--dim); padding-bottom: .3rem; overflow-w
 th, td { text-align: left; vertical-align: top; overflow-wrap: anywhere } \
 thead th { overflow-wrap: normal }
 th.n, td.n { text-align: right; white-space: nowrap }
-td.may { white-space: nowrap; font-weight: 600 }
+td.may { white-space: nowrap; font-weight: 600 } td.warning { color: var(--changed) }
 td.n.share { min-width: 7.5rem }
 tbody th { font-weight: 600 }
 tr.opens > td { padding-top: 0 } tr.above > th, tr.above > td { border-bottom: 0 }

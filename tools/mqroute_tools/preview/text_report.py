@@ -5,7 +5,7 @@ from typing import TypeVar
 from ..common.files import at
 from ..common.messages import named
 from ..common.tables import shown
-from ..common.terminal import BOLD, DIM, GREEN, RED, Terminal
+from ..common.terminal import BOLD, DIM, GREEN, RED, YELLOW, Terminal
 from ..common.texts import quoted
 from ..script.access_list import Line
 from .findings import (
@@ -143,7 +143,7 @@ class Report:
                 self.dim(f"{place.ljust(width)}  {words}", indent, indent + "    ")]
 
     def right(self, right: Right) -> Iterator[str]:
-        colour = PAINT[right.change]
+        colour = YELLOW if right.is_new_write() else PAINT[right.change]
         yield from self.out.fitted([concerned(right)], "  ")
         topic = f"{example_of(right)}{shown(topic_of(right))}"
         parts = [f"{may(right)}  {topic}", client_of(right)]

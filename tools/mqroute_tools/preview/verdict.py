@@ -2,10 +2,13 @@
 from dataclasses import dataclass
 
 from ..common.messages import counted
-from .findings import Preview, UserRow
-from .words import share, verb, whom
+from ..common.tables import shown
+from .findings import Preview, Right, UserRow
+from .list_rows import ACCESSES
+from .words import NO_NAME, concerned, share, topic_of, verb, whom
 
 NAMED = 5  # users that lose, of each kind
+WRITES = 3  # new rights to write
 NOTHING = "Nothing would change for anybody."
 
 
@@ -24,8 +27,34 @@ def verdict(found: Preview) -> list[Sentence]:
     silent = [row for row in losing if row.after == 0]
     others = [row for row in losing if row.after > 0]
     gaining = [row for row in found.gaining() if not row.lost]
-    return [*silenced(silent), *losers(others), *gainers(gaining), *refused(found),
-            *rights(found), *not_asked(found), *receiving_nothing(found), *otherwise(found)]
+    return [*newly_writing(found.granted), *silenced(silent), *losers(others),
+            *gainers(gaining), *refused(found), *rights(found), *not_asked(found),
+            *receiving_nothing(found), *otherwise(found)]
+
+
+def newly_writing(granted: list[Right]) -> list[Sentence]:
+    """First of all: who may command what nobody gave them to before."""
+    rights = [one for one in granted if one.access == "write"]
+    found = [Sentence(who(one), f"may newly write topics of {filter_of(one)}.", True)
+             for one in rights[:WRITES]]
+    rest = len(rights) - WRITES
+    more = "1 more right" if rest == 1 else f"{rest:,} more rights"
+    return found + ([Sentence("", f"So may others, by {more}.", True)] if rest > 0 else [])
+
+
+def who(right: Right) -> str:
+    """At the beginning of a sentence."""
+    words = concerned(right).replace("no user name", NO_NAME, 1)
+    return words if words.startswith("user") else words[0].upper() + words[1:]
+
+
+def filter_of(right: Right) -> str:
+    """That of the line that grants it, or of the topic where none does."""
+    line = right.deciding.proposed
+    words = line.text.split() if line else []
+    if len(words) > 2 and words[1] in ACCESSES:
+        words = words[1:]
+    return shown(" ".join(words[1:])) if len(words) > 1 else shown(topic_of(right))
 
 
 def silenced(rows: list[UserRow]) -> list[Sentence]:
