@@ -311,8 +311,19 @@ class Files(Case):
             done = self.shown("--json", *lists, "1.log", "-", stdin=stream)
         two = json.loads(done.stdout)
         self.assertEqual(two["sources"], ["1.log", "-"])
+        places = [self.first_lines(found) for found in (one, two)]
         self.assertEqual({**two, "sources": one["sources"]}, one)
         self.assertIn("preview: 3834 lines read, 1019 commands written\n", done.stderr)
+        wanted = [number if name == "1.log" else number + 2000 for name, number in places[1]]
+        self.assertEqual(wanted, [number for _, number in places[0]])
+        self.assertEqual({name for name, _ in places[1]}, {"1.log", "standard input"})
+
+    def first_lines(self, found: dict) -> list[tuple[str, int]]:
+        """Where each cause stands first in a log, which is taken out of what was found."""
+        places = [cause.pop("log") for row in found["users"] + found["refused"]
+                  for cause in row["causes"]]
+        return [(name, int(number)) for name, _, number in
+                (place.rpartition(":") for place in places)]
 
     def test_what_is_kept(self):
         log = RECORDED / "plain.log"

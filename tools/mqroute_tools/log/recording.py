@@ -2,6 +2,7 @@
 answers to that script."""
 import argparse
 import pickle
+from array import array
 from collections.abc import Callable, Iterator
 from contextlib import contextmanager
 from typing import IO
@@ -94,20 +95,20 @@ class KeptSteps:
 
 
 def record(wanted: "Makes[Recorder]", options: argparse.Namespace, logs: Logs, out: IO[bytes],
-           kept: KeptSteps) -> tuple[Recorder, int]:
+           kept: KeptSteps) -> tuple[Recorder, "array[int]"]:
     """Writes the commands of the logs to one file of its own, and the steps to another; gives what
-    read them, and how many commands they are."""
-    def write(found: Recorder) -> int:
+    read them, and from which line of the logs each command came (0: of before them)."""
+    def write(found: Recorder) -> "array[int]":
         out.seek(0)
         out.truncate()
-        written = 0
+        places = array("Q")
         with kept.written() as add:
             for step in steps(found, logs.streams(found)):
                 for command in step.commands:
                     out.write(text_of(command).encode("utf-8") + b"\n")
-                written += len(step.commands)
+                    places.append(step.place)
                 add(step)
-        return written
+        return places
     return read_logs(wanted, options, logs, write)
 
 

@@ -30,12 +30,14 @@ class Cause:
     deciding: Deciding | None  # None where no list was asked
     lines: list[Place]  # the first of the script
     command: str | None = None  # of mqroute-why, on the first of these lines
+    log: str = ""  # the file and line of a log for the first of them, where the script is of one
 
     def json(self) -> Json:
         first = self.lines[0]
         return {"what": self.what, "count": self.count, "because": self.because,
                 "deciding": asdict(self.deciding) if self.deciding else None,
                 "line": first.line, "client": first.client, "why": self.command,
+                "log": self.log or None,
                 "lines": [place.json() for place in self.lines]}
 
 

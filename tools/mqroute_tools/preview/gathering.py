@@ -271,6 +271,8 @@ def put_together(options: argparse.Namespace, lists: Lists, script: Script,
     command = WhyCommand(options, why_script(options, found) if is_file else None, publishes)
     for cause in found.causes():
         cause.command = command.of(cause)
+        if script.reading is not None and renaming is None:
+            cause.log = script.reading.where(cause.lines[0].line)
     return found
 
 

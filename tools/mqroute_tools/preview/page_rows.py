@@ -71,9 +71,10 @@ class Rows:
         deciding = self.deciding(cause.deciding) if cause.deciding else ""
         command = (f"<p class='command'>Ask about the first: <code>{escaped(cause.command)}</code>"
                    "</p>" if cause.command else "")
+        log = f"<p class='log'>First at <bdi>{escaped(cause.log)}</bdi></p>" if cause.log else ""
         of = "publishes" if cause.what in ("refused", "accepted") else "messages"
         lines = script_lines(cause.lines, cause.count, of, self.found.facts.texts)
-        return f"<div class='cause'>{words}{deciding}{command}{lines}</div>"
+        return f"<div class='cause'>{words}{deciding}{log}{command}{lines}</div>"
 
     def deciding(self, lines: Deciding, rule: str = "") -> str:
         """The line of each list, or that none allows it; and of a plan."""

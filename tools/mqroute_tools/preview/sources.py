@@ -1,6 +1,7 @@
 """What a preview is tried on: a script, or one made of logs."""
 import argparse
 import shutil
+from array import array
 from collections.abc import Callable
 from dataclasses import dataclass
 from pathlib import Path
@@ -34,6 +35,12 @@ class Reading:
     reader: Recorder
     steps: KeptSteps
     logs: Logs
+    places: "array[int]"  # by lines of the script, those of the logs
+
+    def where(self, line: int) -> str:
+        """The file and line of a log for a line of the script; empty where it is of before them."""
+        place = self.places[line - 1]
+        return self.logs.where(place) if place else ""
 
 
 @dataclass
@@ -104,8 +111,8 @@ def made(options: argparse.Namespace, sources: list[Source], folder: Path,
             found, written = write_script(options, logs, out)
         else:
             wanted = options.by_conf.recorder() if options.by_conf else Recorder
-            found, written = record(wanted, options, logs, out, steps)
-            reading = Reading(found, steps, logs)
+            found, places = record(wanted, options, logs, out, steps)
+            reading, written = Reading(found, steps, logs, places), len(places)
     before_notes()
     sum_up(found, logs, written)
     name = "the script of " + ", ".join(options.source)

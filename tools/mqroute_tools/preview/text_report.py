@@ -131,7 +131,8 @@ class Report:
         else:
             place = cause.lines[0]
             client = f", client {listed(place.client)}" if place.client else ""
-            yield from self.dim(f"first at line {place.line} of the script{client}", "        ")
+            where = cause.log or f"line {place.line} of the script"
+            yield from self.dim(f"first at {where}{client}", "        ")
 
     def deciding(self, lines: Deciding, indent: str,
                  more: Iterable[tuple[str, str]] = ()) -> list[str]:
