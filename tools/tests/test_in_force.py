@@ -124,6 +124,14 @@ class InForce(Case):
         self.assertEqual((found["in_force"]["state"], found["in_force"]["why"]),
                          ("not checked", "--no-check"))
 
+    def test_by_our_own_rules(self):
+        """By which a right list may not explain the log."""
+        self.write("deny.acl", "user plant manager\ntopic read #\npattern deny plant/#\n")
+        hint = "this was asked by mqroute's own rules: --rules mosquitto asks by the broker's"
+        for words, wanted in ((["--rules", "mosquitto"], False), ([], True)):
+            done = self.shown(*words, "deny.acl", "plain.acl", "plain.log")
+            self.assertEqual((done.returncode, hint in done.stdout.split("\n")), (2, wanted))
+
     def test_of_a_script(self):
         """It has no copies of a broker's."""
         self.shown("--no-check", *SETTLES, "--keep", "kept", "plain.acl", "plain.acl", "plain.log")

@@ -105,7 +105,7 @@ def gathered(options: argparse.Namespace, folder: Path, steps: Steps) -> Preview
     steps.next()
     check = checked(options, lists, script, renaming, folder)
     if check and not check.has_answer():
-        raise NoAnswer(check, said_of(options, script))
+        raise NoAnswer(check, [*said_of(options, script), *of_rules(options)])
     steps.next()
     answers.subscriptions = receiving_nothing(lists, scripts, renaming)
     steps.next()
@@ -136,6 +136,13 @@ def said_of(options: argparse.Namespace, script: Script) -> list[str]:
     return [f"clients came by the ports {ports}: each may have a list of its own "
             "(per_listener_settings). This answer is of one list for all of them: --conf reads "
             "which there are", *users]
+
+
+def of_rules(options: argparse.Namespace) -> list[str]:
+    """Why a right list may look like a wrong one."""
+    if options.rules == "mosquitto" or options.plan is not None:
+        return []
+    return ["this was asked by mqroute's own rules: --rules mosquitto asks by the broker's"]
 
 
 def absent_users(name: str, reader: Recorder) -> list[str]:
