@@ -5,8 +5,9 @@ import unittest
 import unittest.mock
 from collections.abc import Iterator
 
+import worked  # noqa: F401  it knows where the tools are
 from mqroute_tools.common.exit_status import Fault
-from mqroute_tools.common.second_process import BATCH, ahead
+from mqroute_tools.common.second_process import BATCH, ahead, meanwhile
 
 
 def made(count: int, fault: Exception | None = None) -> Iterator[tuple[int, int]]:
@@ -61,6 +62,32 @@ class OneProcessor(unittest.TestCase):
         with unittest.mock.patch("os.fork", side_effect=AssertionError), \
                 unittest.mock.patch("os.sched_getaffinity", return_value={0}):
             self.assertEqual(list(ahead(made(3))), list(made(3)))
+
+
+
+class Meanwhile(unittest.TestCase):
+    @unittest.skipUnless(len(os.sched_getaffinity(0)) > 1, "there is one processor")
+    def test_by_a_second_process(self):
+        with meanwhile(os.getpid) as result:
+            self.assertNotEqual(result(), os.getpid())
+        self.assertRaises(ChildProcessError, os.waitpid, -1, 0)
+
+    def test_by_one_alone(self):
+        with unittest.mock.patch("os.sched_getaffinity", return_value={0}):
+            with meanwhile(os.getpid) as result:
+                self.assertEqual(result(), os.getpid())
+
+    def test_what_is_raised(self):
+        def work() -> int:
+            raise Fault("no")
+        with meanwhile(work) as result, self.assertRaisesRegex(Fault, "no"):
+            result()
+
+    def test_nobody_asks(self):
+        """The second process is ended."""
+        with meanwhile(lambda: signal.pause()):
+            pass
+        self.assertRaises(ChildProcessError, os.waitpid, -1, 0)
 
 
 if __name__ == "__main__":

@@ -2,7 +2,8 @@
 import os
 import pickle
 import signal
-from collections.abc import Iterable, Iterator
+from collections.abc import Callable, Iterable, Iterator
+from contextlib import contextmanager
 from typing import BinaryIO, NoReturn, TypeVar
 
 from . import interrupt
@@ -17,9 +18,36 @@ def ahead(items: Iterable[Item]) -> Iterator[Item]:
     """The items, in their order, each of which can be pickled. Where there is a second processor, a
     second process makes them, by what is here when the first is asked for; what changes there
     changes there alone. What it raises is raised here."""
-    if not hasattr(os, "fork") or processors() == 1:
+    if not has_second():
         yield from items
         return
+    with started(items) as stream:
+        yield from received(stream)
+
+
+@contextmanager
+def meanwhile(work: Callable[[], Item]) -> Iterator[Callable[[], Item]]:
+    """Gives what waits for the result of the work, which can be pickled: a second process does it
+    meanwhile, or else it is done then."""
+    if not has_second():
+        yield work
+        return
+    with started(one(work)) as stream:
+        yield lambda: next(received(stream))
+
+
+def one(work: Callable[[], Item]) -> Iterator[Item]:
+    yield work()
+
+
+def has_second() -> bool:
+    """Whether there can be a second process, and a processor for it."""
+    return hasattr(os, "fork") and processors() > 1
+
+
+@contextmanager
+def started(items: Iterable[Item]) -> Iterator[BinaryIO]:
+    """What a second process sends, which makes the items."""
     reading, writing = os.pipe()
     process = os.fork()
     if process == 0:
@@ -28,7 +56,7 @@ def ahead(items: Iterable[Item]) -> Iterator[Item]:
     os.close(writing)
     try:
         with open(reading, "rb") as stream:
-            yield from received(stream)
+            yield stream
     finally:
         os.kill(process, signal.SIGKILL)
         os.waitpid(process, 0)

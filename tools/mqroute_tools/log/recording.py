@@ -1,6 +1,7 @@
 """One reading of a log for both: its script, and its steps for a comparison with what mqroute
 answers to that script."""
 import argparse
+import gc
 import pickle
 from array import array
 from collections.abc import Callable, Iterator
@@ -94,6 +95,16 @@ class KeptSteps:
                     return
 
 
+@contextmanager
+def uncollected() -> Iterator[None]:
+    """Next to nothing here refers to itself, and to look for it takes a third of the time."""
+    gc.disable()
+    try:
+        yield
+    finally:
+        gc.enable()
+
+
 def record(wanted: "Makes[Recorder]", options: argparse.Namespace, logs: Logs, out: IO[bytes],
            kept: KeptSteps) -> tuple[Recorder, "array[int]"]:
     """Writes the commands of the logs to one file of its own, and the steps to another; gives what
@@ -109,12 +120,14 @@ def record(wanted: "Makes[Recorder]", options: argparse.Namespace, logs: Logs, o
                     places.append(step.place)
                 add(step)
         return places
-    return read_logs(wanted, options, logs, write)
+    with uncollected():
+        return read_logs(wanted, options, logs, write)
 
 
 def compared(kept: KeptSteps, output: str) -> Comparison:
     """With what mqroute answered to the script."""
     found = Comparison()
-    for step in answered(kept, output):
-        found.add(step)
+    with uncollected():
+        for step in answered(kept, output):
+            found.add(step)
     return found

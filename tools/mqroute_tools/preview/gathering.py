@@ -5,10 +5,12 @@ import os
 from dataclasses import dataclass
 from pathlib import Path
 
+from ..common.exit_status import Fault
 from ..common.files import at, plain_file
 from ..common.messages import counted, named, note, say
 from ..common.programs import output_of
 from ..common.progress import Progress
+from ..common.second_process import meanwhile
 from ..log.recording import Recorder, compared as compared_with_log
 from ..losses import acl_verdicts
 from ..losses.comparison import Losses, compare, findings
@@ -33,8 +35,8 @@ from .user_rows import refused_rows, user_rows
 from .why_command import LIMITS, WhyCommand
 
 STEPS = ("comparing the lists", "looking for remarks", "reading what clients did",
-         "trying the current list", "looking whether it was in force", "looking at subscriptions",
-         "trying the proposed list", "comparing what was delivered")
+         "trying the current list", "looking at subscriptions", "trying the proposed list",
+         "comparing what was delivered", "looking whether the current list was in force")
 BY_PLAN = *STEPS[:3], "renaming topics", *STEPS[3:]
 MOST_USERS = 8  # that are named
 
@@ -98,22 +100,8 @@ def gathered(options: argparse.Namespace, folder: Path, steps: Steps) -> Preview
     if plan is not None:
         steps.next()
         renaming = Renaming(plan, script, folder)
-    steps.next()
-    scripts = (script.path,) * 2 if renaming is None else (renaming.old, renaming.new)
-    outputs = folder / BEFORE, folder / AFTER
-    run(options, lists, lists.current, scripts[0], outputs[0])
-    steps.next()
-    check = checked(options, lists, script, renaming, folder)
-    if check and not check.has_answer():
-        raise NoAnswer(check, [*said_of(options, script), *of_rules(options)])
-    steps.next()
-    answers.subscriptions = receiving_nothing(lists, scripts, renaming)
-    steps.next()
-    run(options, lists, lists.proposed, scripts[1], outputs[1])
-    steps.next()
-    before, after = map(str, outputs)
-    differences = (compared(lists, script, before, after) if renaming is None else
-                   compared_by_plan(lists, renaming, before, after))
+    trial = Trial(options, lists, script, renaming, folder, steps)
+    differences, check = trial.run_both(answers)
     steps.clear()
     found = put_together(options, lists, script, renaming, answers, differences)
     found.check, found.said = check, said_of(options, script)
@@ -121,6 +109,70 @@ def gathered(options: argparse.Namespace, folder: Path, steps: Steps) -> Preview
     if options.by_conf:
         options.by_conf.leave_out(found)
     return found
+
+
+@dataclass
+class Trial:
+    """A script, to be run under both lists."""
+    options: argparse.Namespace
+    lists: Lists
+    script: Script
+    renaming: Renaming | None
+    folder: Path
+    steps: Steps
+
+    def run_both(self, answers: Answers) -> tuple[Differences, Check | None]:
+        """What differs, and whether the current list was in force: a second process looks at that,
+        where there can be one."""
+        path, renaming = self.script.path, self.renaming
+        scripts = (path, path) if renaming is None else (renaming.old, renaming.new)
+        self.steps.next()
+        self.run(self.lists.current, scripts[0], BEFORE)
+        if renaming is not None and self.script.reading is not None:
+            self.run(self.lists.current, path, CHECKED)  # BEFORE has it under other lines
+        with meanwhile(self.checked) as check:
+            try:
+                self.steps.next()
+                answers.subscriptions = receiving_nothing(self.lists, scripts, renaming)
+                self.steps.next()
+                self.run(self.lists.proposed, scripts[1], AFTER)
+                self.steps.next()
+                differences = self.differences()
+            except Fault:
+                self.refuse(check())
+                raise
+            self.steps.next()
+            was_in_force = check()
+        self.refuse(was_in_force)
+        return differences, was_in_force
+
+    def run(self, one: AccessList, script: str, output: str) -> None:
+        run(self.options, self.lists, one, script, self.folder / output)
+
+    def differences(self) -> Differences:
+        before, after = (str(self.folder / name) for name in (BEFORE, AFTER))
+        if self.renaming is None:
+            return compared(self.lists, self.script, before, after)
+        return compared_by_plan(self.lists, self.renaming, before, after)
+
+    def checked(self) -> Check | None:
+        """Whether the current list was in force when the logs were written; nothing of a script."""
+        name, reading = named(self.lists.current.name), self.script.reading
+        if not self.script.is_made:
+            return None
+        if reading is None or self.options.no_check:
+            return not_asked_for(name)
+        output = self.folder / (BEFORE if self.renaming is None else CHECKED)
+        found = compared_with_log(reading.steps, str(output))
+        by_conf: ByConf | None = self.options.by_conf
+        return judged(name, found, reading.reader, reading.logs.where,
+                      by_conf.sets_aside if by_conf else lambda _: False)
+
+    def refuse(self, check: Check | None) -> None:
+        """Raises NoAnswer where it would be about another broker, or that isn't known."""
+        if check and not check.has_answer():
+            said = said_of(self.options, self.script)
+            raise NoAnswer(check, [*said, *of_rules(self.options)])
 
 
 def said_of(options: argparse.Namespace, script: Script) -> list[str]:
@@ -163,25 +215,6 @@ def tried_by(options: argparse.Namespace, lists: Lists, script: Script) -> Lists
         return lists
     by_conf.read(script.reading.reader)
     return by_conf.tried(options.proposed) or lists
-
-
-def checked(options: argparse.Namespace, lists: Lists, script: Script, renaming: Renaming | None,
-            folder: Path) -> Check | None:
-    """Whether the current list was in force when the logs were written; nothing of a script."""
-    name = named(lists.current.name)
-    if not script.is_made:
-        return None
-    if script.reading is None or options.no_check:
-        return not_asked_for(name)
-    output = folder / BEFORE
-    if renaming is not None:  # that run has the script under other lines
-        output = folder / CHECKED
-        run(options, lists, lists.current, script.path, output)
-    reading = script.reading
-    found = compared_with_log(reading.steps, str(output))
-    by_conf: ByConf | None = options.by_conf
-    return judged(name, found, reading.reader, reading.logs.where,
-                  by_conf.sets_aside if by_conf else lambda _: False)
 
 
 def receiving_nothing(lists: Lists, scripts: tuple[str, str],
