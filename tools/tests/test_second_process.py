@@ -64,7 +64,6 @@ class OneProcessor(unittest.TestCase):
             self.assertEqual(list(ahead(made(3))), list(made(3)))
 
 
-
 class Meanwhile(unittest.TestCase):
     @unittest.skipUnless(len(os.sched_getaffinity(0)) > 1, "there is one processor")
     def test_by_a_second_process(self):
