@@ -136,6 +136,8 @@ class Text(Case):
             shown = [" ".join(line.split()) for line in done.splitlines()]
             for row in rows[:-1]:
                 with self.subTest(old=old, row=row):
+                    # but where compare cuts short the names of all users
+                    row = re.sub(r"^no user name; users .* more; other users$", "everybody", row)
                     self.assertIn(" ".join(row.split()), shown)
             numbers = [int(self.acl("compare", "--rules=own", "--only", way, *lists)
                            .stdout.splitlines()[-1].split()[0].replace("by", "0"))

@@ -17,7 +17,7 @@ from mqroute_tools.preview.gathered_topics import Topics, gathered
 from mqroute_tools.preview.text_report import report
 from mqroute_tools.preview.verdict import verdict
 from mqroute_tools.preview.why_command import quoted
-from mqroute_tools.preview.words import share, summary
+from mqroute_tools.preview.words import concerned, share, summary
 from mqroute_tools.script.access_list import Line
 
 
@@ -85,6 +85,22 @@ class Words(unittest.TestCase):
                          "would be granted. 1 subscription would get nothing any more.")
         self.assertEqual([one.rest for one in verdict(self.preview())],
                          ["Nothing would change for anybody."])
+
+    def test_nearly_everybody(self):
+        """All but few, in place of many names."""
+        known = [f"user-{n}" for n in range(9)]
+
+        def words(count: int, *others: Client) -> str:
+            clients = [Client(user, "c", []) for user in known[:count]]
+            return concerned(Right("gained", "read", "x", Deciding(None, None),
+                                   [*others, *clients], known=known))
+        any_user, nameless = Client("any", "c", ["any"]), Client(None, "c", [])
+        self.assertEqual(words(8, nameless, any_user), "everybody but user-8")
+        self.assertEqual(words(7, any_user), "all users but user-7, user-8")
+        self.assertEqual(words(9, nameless, any_user), "everybody")
+        self.assertEqual(words(9), "users user-0, user-1, user-2, user-3 and 5 more")
+        self.assertEqual(words(5, any_user),
+                         "users user-0, user-1, user-2, user-3 and 1 more; other users")
 
     def test_new_rights_to_write_come_first(self):
         """By the filter of the line that grants, and as a warning."""

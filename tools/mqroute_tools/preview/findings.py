@@ -102,6 +102,7 @@ class Right:
     clients: list[Client]
     new_topic: str | None = None  # by a plan, with the rule that decides; None without one
     rule: Line | None = None
+    known: list[str] = field(default_factory=list)  # users whom the lists name
 
     def is_new_write(self) -> bool:
         return self.change == GAINED and self.access == "write"

@@ -197,11 +197,15 @@ def of_rules(options: argparse.Namespace) -> list[str]:
     return ["this was asked by mqroute's own rules: --rules mosquitto asks by the broker's"]
 
 
+def users_of(name: str) -> list[str]:
+    """Whom the list names; nobody where it isn't a file."""
+    rows = rows_of(name, name) if plain_file(name) else []
+    return list(dict.fromkeys(row.user for row in rows if row.user))
+
+
 def absent_users(name: str, reader: Recorder) -> list[str]:
     """That some whom the current list names don't connect in the log."""
-    if plain_file(name) is None:
-        return []
-    users = list(dict.fromkeys(row.user for row in rows_of(name, name) if row.user))
+    users = users_of(name)
     absent = [user for user in users if user not in reader.users]
     more = f" and {len(absent) - MOST_USERS:,} more" if len(absent) > MOST_USERS else ""
     return [f"{len(absent):,} of {counted(len(users), 'users', ',')} that {named(name)} names "
@@ -299,6 +303,10 @@ def put_together(options: argparse.Namespace, lists: Lists, script: Script,
         answers.subscriptions, answers.remarks, differences.totals, answers.notes,
         answers.not_asked)
     found.reload = reload_of(options.proposed)
+    known = list(dict.fromkeys(user for name in (options.current, options.proposed)
+                               for user in users_of(name)))
+    for right in found.granted + found.taken:
+        right.known = known
     found.facts = facts_of(script.path, wanted_lines(found.causes()))
     say_of(found.facts, script)
     publishes = {line: line for line in found.facts.wanted_publishes}

@@ -7,6 +7,7 @@ from .findings import GAINED, Client, Preview, RefusedRow, Right, UserRow
 from .gathered_topics import Topics
 
 MOST_NAMES = 4  # of user names that a right is of
+MOST_ABSENT = 3  # of those whom it isn't of, where it is of nearly everybody
 NO_NAME = "clients without a user name"
 RULES = {"own": "mqroute's own rules", "mosquitto": "mosquitto's rules"}
 NO_LINE, NO_RULE = "no line allows it", "no line is about it"
@@ -104,6 +105,10 @@ def names(clients: Iterable[Client]) -> list[str]:
 def concerned(right: Right, most: int | None = MOST_NAMES) -> str:
     """Whom a right is of: `most` user names, or all."""
     named = names(right.clients)
+    absent = [user for user in right.known if user not in named]
+    if len(named) > MOST_NAMES and len(absent) <= MOST_ABSENT and any(
+            one.is_any_user() for one in right.clients):
+        return all_but(absent, any(one.user is None for one in right.clients))
     parts = ["no user name"] if any(one.user is None for one in right.clients) else []
     if named:
         more = f" and {len(named) - most:,} more" if most and len(named) > most else ""
@@ -112,6 +117,12 @@ def concerned(right: Right, most: int | None = MOST_NAMES) -> str:
     if any(one.is_any_user() for one in right.clients):
         parts.append("other users")
     return "; ".join(parts)
+
+
+def all_but(absent: list[str], with_nameless: bool) -> str:
+    """In place of a long list of names."""
+    everybody = "everybody" if with_nameless else "all users"
+    return f"{everybody} but {', '.join(map(shown, absent))}" if absent else everybody
 
 
 def kind_of(client: Client, level: str) -> str:
