@@ -7,6 +7,8 @@ import shutil
 
 from test_preview import Case, wants_programs
 from worked import HERE
+from mqroute_tools.preview.list_rows import Row
+from mqroute_tools.preview.listeners import Key, filled
 
 PLANT = """\
 # the machines
@@ -152,6 +154,11 @@ class Listeners(ConfCase):
         self.refused("plant.acl:10: it denies some of what line 6 grants, and comes behind that "
                      "line: each client under its own listener's list can't be had",
                      "--conf", "mosquitto.conf", "--port", "22101", "new.acl")
+
+    def test_names_that_look_like_marks(self):
+        """Each mark stands for one name, whatever that holds."""
+        row = Row("x.acl", 1, "", True, None, "read", "%c/%u/%x")
+        self.assertEqual(filled(row, Key(1, "a%c", "b%u")), "b%u/a%c/%x")
 
     def test_own_bridges_are_under_no_list(self):
         self.write("bridge.acl", "topic read nothing\nuser plc\ntopic readwrite werk/#\n")

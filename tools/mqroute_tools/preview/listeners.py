@@ -5,6 +5,7 @@ By mosquitto's rules a client is decided by the `topic` lines of its user name, 
 `pattern` lines. So a class is a listener and a user name, and where the listener's list has
 `pattern` lines the client too: these become `topic` lines with its names in them.
 """
+import re
 from collections.abc import Iterable
 from typing import Any, NamedTuple
 
@@ -23,6 +24,7 @@ from .list_rows import BLANKS, Row
 
 OWN_BRIDGE = -1  # in place of a port: of the broker's own bridges no list is asked
 UNKNOWN = 0
+MARK = re.compile("%[cu]")
 EVERYTHING = ("topic readwrite #", "topic readwrite $SYS/#")
 
 Rows = list[Row] | None  # None: there is no list, so everything is allowed
@@ -100,7 +102,8 @@ def is_asked(row: Row, key: Key) -> bool:
 
 
 def filled(row: Row, key: Key) -> str:
-    found = row.filter.replace("%c", key.client or "").replace("%u", key.user or "")
+    names = {"%c": key.client or "", "%u": key.user or ""}
+    found = MARK.sub(lambda mark: names[mark[0]], row.filter)  # a name may look like a mark
     if found != found.strip(BLANKS):
         raise Fault(f"{at(row.file, row.line)}: for the client {key.client!r} it has blanks at an "
                     "end, which no list can say: each client under its own listener's list can't "
