@@ -7,7 +7,8 @@ from pathlib import Path
 import mosquitto
 import worked  # noqa: F401  it knows where the tools are
 from mqroute_tools.common.exit_status import Fault
-from mqroute_tools.conf.limits import left_out, refuse_dead_list, refuse_plugins, refuse_short_log
+from mqroute_tools.conf.limits import (
+    left_out, refuse_dead_list, refuse_plugins, refuse_shared_ports, refuse_short_log)
 from mqroute_tools.conf.mosquitto_conf import Conf
 from mqroute_tools.conf.reading import ConfFault, read_conf
 
@@ -160,6 +161,15 @@ class Settings(ConfCase):
         refuse_plugins(found, found.listeners[:1])
         with self.assertRaisesRegex(Fault, r":5: on port 2 the plugin dynamic security decides"):
             refuse_plugins(found, found.listeners)
+
+    def test_listeners_of_one_port(self):
+        """On different addresses: their clients can't be told apart."""
+        text = ("per_listener_settings true\nlistener 1 127.0.0.1\nacl_file /a\n"
+                "listener 1 192.0.2.1\n")
+        with self.assertRaisesRegex(Fault, "listeners with port 1 have different access lists"):
+            refuse_shared_ports(self.conf(text))
+        refuse_shared_ports(self.conf(text + "acl_file /a\n"))
+        refuse_shared_ports(self.conf("listener 1 127.0.0.1\nacl_file /a\nlistener 1 ::1\n"))
 
     def test_what_is_left_out(self):
         self.assertEqual(left_out(self.conf("listener 1\n")), [])

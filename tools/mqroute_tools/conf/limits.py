@@ -25,6 +25,18 @@ def refuse_dead_list(conf: Conf) -> None:
             raise Fault(f"{setting.place()}: {NO_LISTENER}")
 
 
+def refuse_shared_ports(conf: Conf) -> None:
+    """Raises Fault where listeners of one port, or without one, have different lists: a log has the
+    port alone."""
+    lists: dict[int, str | None] = {}
+    for one in conf.listeners:
+        setting = conf.list_of(one)
+        name = setting.value if setting else None
+        if lists.setdefault(one.port, name) != name:
+            raise Fault(f"{conf.path}: listeners with {one.name()} have different access lists: "
+                        "the log doesn't tell which of them a client came by")
+
+
 def refuse_short_log(conf: Conf) -> None:
     """Raises Fault where the log that the conf names doesn't have what is needed."""
     if not conf.all.flag("connection_messages", True):

@@ -7,7 +7,7 @@ from functools import partial
 
 from ..common.exit_status import Fault, UsageFault
 from ..common.messages import counted, named
-from ..conf.limits import left_out, refuse_dead_list, refuse_plugins
+from ..conf.limits import left_out, refuse_dead_list, refuse_plugins, refuse_shared_ports
 from ..conf.mosquitto_conf import Conf, Listener
 from ..conf.places import place_of
 from ..log.options import logs_by_conf
@@ -136,6 +136,7 @@ def prepare(options: argparse.Namespace) -> ByConf:
         raise UsageFault("--plan goes by mqroute's own rules, and --conf by mosquitto's")
     conf = read_conf_file(options.conf)
     refuse_dead_list(conf)
+    refuse_shared_ports(conf)
     proposed, *logs = [one for one in (options.current, options.proposed) if one is not None]
     logs = logs_by_conf(options, conf, [*logs, *options.source])
     paths = {one.port: path_of(conf, one) for one in conf.listeners}
