@@ -1,10 +1,11 @@
 -- Groups of differences that are alike.
 use Rattle.std.proofs.Common.{◌≡◌, ℕ, zero, suc, ◌<◌, Bool, true, false, List, [], ◌∷◌, ◌++◌}
-use Rattle.std.proofs.Common.{◌&&◌, length, length-append, length-set, get_or, All, Contains, arith, refl}
+use Rattle.std.proofs.Common.{◌&&◌, ◌||◌, not, length, length-append, length-set, get_or, All, Contains, arith, refl}
 use Rattle.std.proofs.Common.{ap, sym, ◌∙◌, subst, append_assoc, ltb, bytes_eq}
 use Rattle.std.specs.Prelude.{AllPairs, IsPermutation, map, if◌then◌else◌, codes}
 use Rattle.std.specs.BTreeMap.{get_by_text}
 use Rattle.std.specs.Fmt.{decimal}
+use Rattle.std.specs.List.{filter, list_any}
 use Rattle.std.specs.Option.{option_map_or}
 use Rattle.std.proofs.Math.ListN.{set}
 use Rattle.std.proofs.Math.Seq.{map-set_same}
@@ -12,25 +13,135 @@ use Rattle.std.proofs.lemmas.Grind.{flat_map-append}
 use Rattle.std.proofs.Math.ListN.{get_or-append, get_or-map}
 use Rattle.std.proofs.Math.Seq.{get_or-append_seam}
 use Rattle.std.proofs.lemmas.Bool.{and_parts, ltb-true, ltb-false}
-use Rattle.std.proofs.lemmas.List.{map-append}
+use Rattle.std.proofs.lemmas.List.{append-nil, length-map, map-append}
 use Rattle.std.proofs.lemmas.List.Elements.{All-append, All-cons, All-nil, All-map, All-set}
 use Rattle.std.proofs.lemmas.List.Elements.{All-get_or, All-contains, Contains-append_left}
-use Rattle.std.proofs.lemmas.List.Elements.{Contains-push}
+use Rattle.std.proofs.lemmas.List.Elements.{Contains-push, filter-append}
+use Rattle.std.proofs.lemmas.List.Folds.{list_any_at, list_any_none}
+use Rattle.std.proofs.lemmas.Map.Views.{any-filter_same}
 use Rattle.std.proofs.lemmas.List.Quantifiers.{all_pairs_push}
 use Rattle.std.proofs.lemmas.List.Sorted.{IsPermutation-append_left, IsPermutation-append_right}
 use Rattle.std.proofs.lemmas.List.Sorted.{IsPermutation-to_front, IsPermutation-trans}
 use Rattle.mq_topic.proofs.ByteLemmas.{text_is, text_itself}
 use Rattle.mq_differences.specs.Differences.{same_direction, same_reason, same_reasons, same_way}
 use Rattle.mq_differences.specs.Groups.{HasGroup, IsGathered, IsGathering, IsGroup, JoinsGroup}
-use Rattle.mq_differences.specs.Groups.{LacksGroup, is_alike, key_of, line_of, members, places_at}
+use Rattle.mq_differences.specs.Groups.{LacksGroup, firsts, is_alike, key_of, line_of, members, places_at}
 use Rattle.mq_differences.specs.declared.difference.Difference.{Difference}
 use Rattle.mq_differences.specs.declared.group.Gathering.{Gathering}
 use Rattle.mq_differences.specs.declared.group.Group.{Group}
-use Rattle.mq_differences.proofs.ReportLemmas.{reason_is}
+use Rattle.mq_differences.proofs.ReportLemmas.{direction_is, reason_is, way_is}
 
 abbrev in_group : Group → List Difference
 in_group group = group.first ∷ group.others.items
 
+-- ---- the order of the groups
+abbrev firsts_in : List Group → List Difference
+firsts_in groups = map (λ group. group.first) groups
+
+alike_same : (a e d : Difference) → is_alike a e ≡ true → is_alike a d ≡ is_alike e d
+alike_same a e d h =
+    let three = and_parts (same_direction a.direction e.direction && same_way a.way e.way
+    && same_reasons a e) (bytes_eq a.topic e.topic) h in
+    let two = and_parts (same_direction a.direction e.direction && same_way a.way e.way)
+    (same_reasons a e) three.0 in
+    let one = and_parts (same_direction a.direction e.direction) (same_way a.way e.way) two.0 in
+    let reasons = and_parts (same_reason a.old_reason e.old_reason)
+    (same_reason a.new_reason e.new_reason) two.1 in
+    same (direction_is a.direction e.direction one.0) (way_is a.way e.way one.1)
+    (reason_is a.old_reason e.old_reason reasons.0)
+    (reason_is a.new_reason e.new_reason reasons.1) (text_is a.topic e.topic three.1)
+  where
+    same : a.direction ≡ e.direction → a.way ≡ e.way → a.old_reason ≡ e.old_reason
+        → a.new_reason ≡ e.new_reason → a.topic ≡ e.topic → is_alike a d ≡ is_alike e d
+    same direction way old new topic =
+        ap (λ x. same_direction x d.direction && same_way a.way d.way && same_reasons a d
+        && bytes_eq a.topic d.topic) direction
+        ∙ ap (λ x. same_direction e.direction d.direction && same_way x d.way && same_reasons a d
+        && bytes_eq a.topic d.topic) way
+        ∙ ap (λ x. same_direction e.direction d.direction && same_way e.way d.way
+        && (same_reason x d.old_reason && same_reason a.new_reason d.new_reason)
+        && bytes_eq a.topic d.topic) old
+        ∙ ap (λ x. same_direction e.direction d.direction && same_way e.way d.way
+        && (same_reason e.old_reason d.old_reason && same_reason x d.new_reason)
+        && bytes_eq a.topic d.topic) new
+        ∙ ap (λ x. same_direction e.direction d.direction && same_way e.way d.way
+        && same_reasons e d && bytes_eq x d.topic) topic
+
+abbrev alike_to : Difference → Difference → Bool
+alike_to d e = is_alike e d
+
+abbrev unlike : Difference → Difference → Bool
+unlike d e = not (is_alike d e)
+
+-- the last one, unless one like it is there
+abbrev last_of : Bool → Difference → List Difference
+last_of there d = if there then [] else d ∷ []
+
+firsts_push : (all : List Difference) (d : Difference) → firsts (all ++ d ∷ [])
+    ≡ firsts all ++ last_of (list_any (alike_to d) (firsts all)) d
+unfolding firsts
+firsts_push [] d = refl
+firsts_push (a ∷ all) d =
+    ap (λ l. a ∷ filter (unlike a) l) (firsts_push all d)
+    ∙ ap (λ l. a ∷ l) (filter-append (unlike a) (firsts all)
+    (last_of (list_any (alike_to d) (firsts all)) d))
+    ∙ ap (λ l. a ∷ (filter (unlike a) (firsts all) ++ l)) (last (is_alike a d) refl)
+  where
+    kept : (there : Bool) → is_alike a d ≡ false → filter (unlike a) (last_of there d)
+        ≡ last_of there d
+    kept true e = refl
+    kept false e = ap (λ b. if not b then d ∷ [] else []) e
+
+    gone : (there : Bool) → is_alike a d ≡ true → filter (unlike a) (last_of there d) ≡ []
+    gone true e = refl
+    gone false e = ap (λ b. if not b then d ∷ [] else []) e
+
+    others : is_alike a d ≡ false → (e : Difference) → is_alike e d ≡ true → (b : Bool)
+        → is_alike a e ≡ b → not b ≡ true
+    others apart e like true h = absurd (let k : false ≡ true = sym apart ∙ alike_same a e d h ∙ like in cc)
+    others apart e like false h = refl
+
+    last : (b : Bool) → is_alike a d ≡ b
+        → filter (unlike a) (last_of (list_any (alike_to d) (firsts all)) d)
+        ≡ last_of (list_any (alike_to d) (a ∷ filter (unlike a) (firsts all))) d
+    last true e = gone (list_any (alike_to d) (firsts all)) e
+        ∙ sym (ap (λ b. last_of (b || list_any (alike_to d) (filter (unlike a) (firsts all))) d) e)
+    last false e = kept (list_any (alike_to d) (firsts all)) e
+        ∙ sym (ap (λ there. last_of there d)
+        (ap (λ b. b || list_any (alike_to d) (filter (unlike a) (firsts all))) e
+        ∙ any-filter_same (alike_to d) (unlike a) true
+        (λ f like. ap not refl ∙ others e f like (is_alike a f) refl) (firsts all)))
+
+-- where it belongs to a group it is no first one
+order_joined : (all : List Difference) (groups : List Group) (i : ℕ) (old new : Group)
+    (d : Difference) → HasGroup groups d i → new.first ≡ (get_or groups i old).first
+    → firsts_in groups ≡ firsts all → firsts_in (set groups i new) ≡ firsts (all ++ d ∷ [])
+order_joined all groups i old new d place first order =
+    map-set_same (λ group. group.first) groups i new old first
+    ∙ order ∙ sym (firsts_push all d
+    ∙ ap (λ there. firsts all ++ last_of there d) (ap (list_any (alike_to d)) (sym order) ∙ there)
+    ∙ append-nil (firsts all))
+  where
+    there : list_any (alike_to d) (firsts_in groups) ≡ true
+    there = list_any_at (alike_to d) (firsts_in groups) i old.first
+        (subst (λ n. i < n) (sym (length-map groups (λ group. group.first))) place.within)
+        (ap (alike_to d) (get_or-map (λ group. group.first) groups i old) ∙ place.alike old)
+
+-- where it belongs to none it is one
+order_begun : (all : List Difference) (groups : List Group) (new : Group)
+    → All (λ group. is_alike group.first new.first ≡ false) groups
+    → firsts_in groups ≡ firsts all
+    → firsts_in (groups ++ new ∷ []) ≡ firsts (all ++ new.first ∷ [])
+order_begun all groups new unlike order =
+    map-append (λ group. group.first) groups (new ∷ [])
+    ∙ ap (λ l. l ++ new.first ∷ []) order
+    ∙ sym (firsts_push all new.first
+    ∙ ap (λ there. firsts all ++ last_of there new.first)
+    (ap (list_any (alike_to new.first)) (sym order) ∙ list_any_none (alike_to new.first)
+    (firsts_in groups)
+    (All-map (λ f. is_alike f new.first ≡ false) (λ group. group.first) groups unlike)))
+
+-- ---- their members
 push_inside : (a b : List Difference) (d : Difference)
     → IsPermutation ((a ++ b) ++ d ∷ []) ((a ++ d ∷ []) ++ b)
 push_inside a b d =
@@ -73,6 +184,7 @@ gathering_joined all groups i old new d place j s =
           (subst (All (λ e. is_alike group.first e ≡ true)) (sym j.others) alike)) s.alike;
       apart = subst (AllPairs (λ e f. is_alike e f ≡ false))
           (sym (map-set_same (λ group. group.first) groups i new old j.first)) s.apart;
+      order = order_joined all groups i old new d place j.first s.order;
     }
 
 -- it is the first of a group of its own
@@ -96,6 +208,7 @@ gathering_begun all groups new alone unlike s =
           (all_pairs_push (λ e f. is_alike e f ≡ false) firsts d s.apart
           (λ k e h. All-get_or (λ f. is_alike f d ≡ false) firsts k e h
           (All-map (λ f. is_alike f d ≡ false) (λ group. group.first) groups unlike)));
+      order = order_begun all groups new unlike s.order;
     }
 
 -- ---- by keys

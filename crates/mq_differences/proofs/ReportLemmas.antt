@@ -40,13 +40,13 @@ use Rattle.mq_differences.proofs.FirstLemmas.{none_at}
 use Rattle.mq_differences.proofs.MarkLemmas.{get_same}
 
 -- ---- what is the same
-way_is : (a b : Way) → same_way a b ≡ true → a ≡ b
+pub way_is : (a b : Way) → same_way a b ≡ true → a ≡ b
 way_is Gained Gained e = refl
 way_is Gained Lost e = absurd (let k : false ≡ true = e in cc)
 way_is Lost Gained e = absurd (let k : false ≡ true = e in cc)
 way_is Lost Lost e = refl
 
-direction_is : (a b : Direction) → same_direction a b ≡ true → a ≡ b
+pub direction_is : (a b : Direction) → same_direction a b ≡ true → a ≡ b
 direction_is Reading Reading e = refl
 direction_is Reading Writing e = absurd (let k : false ≡ true = e in cc)
 direction_is Writing Reading e = absurd (let k : false ≡ true = e in cc)

@@ -1,9 +1,9 @@
 -- Differences that are alike.
-use Rattle.std.specs.Prelude.{◌≡◌, ◌<◌, ℕ, Bool, true, false, List, [], ◌∷◌, ◌++◌, ◌&&◌, All}
-use Rattle.std.specs.Prelude.{AllPairs, Contains, IsPermutation, codes, length, map, slice_index_or}
+use Rattle.std.specs.Prelude.{◌≡◌, ◌<◌, ℕ, Bool, true, false, not, List, [], ◌∷◌, ◌++◌, ◌&&◌}
+use Rattle.std.specs.Prelude.{All, AllPairs, Contains, IsPermutation, codes, length, map, slice_index_or}
 use Rattle.std.specs.BTreeMap.{get_by_text}
 use Rattle.std.specs.Fmt.{decimal}
-use Rattle.std.specs.List.{flat_map}
+use Rattle.std.specs.List.{filter, flat_map}
 use Rattle.std.specs.Option.{option_map_or}
 use Rattle.std.specs.Str.{bytes_eq}
 use Rattle.mq_differences.specs.Differences.{same_direction, same_way, same_reasons}
@@ -19,6 +19,11 @@ is_alike d e =
     same_direction d.direction e.direction && same_way d.way e.way && same_reasons d e
     && bytes_eq d.topic e.topic
 
+-- of those that are alike the first alone, each in its place
+unfoldable pub firsts : List Difference → List Difference
+firsts [] = []
+firsts (d ∷ all) = d ∷ filter (λ e. not (is_alike d e)) (firsts all)
+
 abbrev pub members : List Group → List Difference
 members groups = flat_map (λ group. group.first ∷ group.others.items) groups
 
@@ -31,11 +36,12 @@ pub record JoinsGroup (old : Group) (d : Difference) (new : Group) : Type 0 wher
   pub first : new.first ≡ old.first
   pub others : new.others.items ≡ old.others.items ++ d ∷ []
 
--- each difference is in one group, with all that are alike
+-- each difference is in one group, with all that are alike; and the groups are in the order of their first ones
 pub record IsGathering (differences : List Difference) (groups : List Group) : Type 0 where
   pub all : IsPermutation differences (members groups)
   pub alike : All IsGroup groups
   pub apart : AllPairs (λ d e. is_alike d e ≡ false) (map (λ group. group.first) groups)
+  pub order : map (λ group. group.first) groups ≡ firsts differences
 
 -- ---- where a group is looked up
 -- the line that decides, or 0 where none does

@@ -123,6 +123,7 @@ impl Drop for Gathering {
 }
 
 impl Gathering {
+    #[tactic(auto, unfolding(crate::specs::Groups::firsts))]
     fn new(alloc: Global) -> Gathering
         ensures { IsGathered [] result }
     {

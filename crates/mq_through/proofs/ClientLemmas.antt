@@ -27,7 +27,8 @@ use Rattle.mq_plan.specs.declared.rule.PlanRule.{PlanRule}
 use Rattle.mq_regions.specs.Deciding.{first_line}
 use Rattle.mq_regions.specs.Regions.{in_region, name_in}
 use Rattle.mq_regions.specs.declared.region.Region.{Region}
-use Rattle.mq_through.specs.Checks.{HasNoName, IsThroughFault}
+use Rattle.mq_through.specs.Checks.{HasNoName}
+use Rattle.mq_through.specs.Faults.{IsThroughFault}
 use Rattle.mq_through.specs.Made.{HasRule, IsClient, IsList, IsNameFault, IsRenamed}
 use Rattle.mq_through.specs.Made.{Names}
 use Rattle.mq_through.specs.Made.{asks_new, asks_old}
@@ -145,11 +146,11 @@ module _ (plan : List PlanRule) (old new : List Row) (region : Region) (client :
       let line = sym (m.part.of.lines d.topic (differs_in d is)) ∙ no_rule in
       let q : Some found.0 ≡ None = sym found.1.0 ∙ line in cc
 
-  pub name_fault : (d : Difference) (fault : ThroughFault)
+  pub name_fault : (steps : ℕ) (d : Difference) (fault : ThroughFault)
       → differences.IsReal Own made_old made_new d → IsNameFault plan d.topic fault
-      → IsThroughFault plan old new fault
-  name_fault d faults.Memory is h = tt
-  name_fault d (faults.LongName line) is h =
+      → IsThroughFault plan old new steps fault
+  name_fault steps d faults.Memory is h = tt
+  name_fault steps d (faults.LongName line) is h =
       let found = m.part.of.long d.topic (differs_in d is) h.1 in
       let same : Some found.0 ≡ Some line =
       sym found.1.0 ∙ sym (m.part.of.lines d.topic (differs_in d is)) ∙ h.0 in
@@ -157,13 +158,13 @@ module _ (plan : List PlanRule) (old new : List Row) (region : Region) (client :
         d.topic,
         (is.valid, subst (λ (l : ℕ). HasNoName plan l d.topic) at found.1.1),
       )
-  name_fault d (faults.OldLine line) is h = absurd h
-  name_fault d (faults.NewLine line) is h = absurd h
-  name_fault d (faults.OldMark line) is h = absurd h
-  name_fault d (faults.NewMark line) is h = absurd h
-  name_fault d (faults.Rule line) is h = absurd h
-  name_fault d faults.NoClient is h = absurd h
-  name_fault d faults.GaveUp is h = absurd h
+  name_fault steps d (faults.OldLine line) is h = absurd h
+  name_fault steps d (faults.NewLine line) is h = absurd h
+  name_fault steps d (faults.OldMark line) is h = absurd h
+  name_fault steps d (faults.NewMark line) is h = absurd h
+  name_fault steps d (faults.Rule line) is h = absurd h
+  name_fault steps d faults.NoClient is h = absurd h
+  name_fault steps d faults.GaveUp is h = absurd h
 
   -- ---- what is made of it
   module _ (d : Difference) (r : Renamed) (is : differences.IsReal Own made_old made_new d)
@@ -244,22 +245,25 @@ module _ (plan : List PlanRule) (old new : List Row) (region : Region) (client :
     renamed_real =
         let e = differs_in d is in
         record {
-          asked = subst (IsQuestion plan) (sym same_about) asked_about;
-          class = (λ i. is_in (row_views old) (row_views new)
-              ((ap user_of n.class ∙ class_user users d.class) i) (n.class i))
-              ∙ class_shown (row_views old) (row_views new) (row_views made_old)
-              (row_views made_new) users (user_of d.class) d.class m.listed m.names is.class;
-          change = (λ i. is_changed (n.way i) old new (same_about i))
-              ∙ sym (change_made d.way (user_of d.class) d.topic r.new_topic d.direction is.valid e
-              n.named)
-              ∙ moved_change d.way refl;
-          old_line = n.old_line ∙ is.old_reason ∙ moved_old
-              ∙ reason_old (user_of d.class) d.topic d.direction is.valid e
-              ∙ ap (old_reason old) (sym same_about);
-          new_line = n.new_line ∙ is.new_reason ∙ moved_new
-              ∙ reason_new (user_of d.class) d.topic r.new_topic d.direction is.valid e n.named
-              ∙ ap (new_reason new) (sym same_about);
-          rule = n.rule ∙ ap (rule_line plan) (sym n.topic);
+          shown = record {
+            asked = subst (IsQuestion plan) (sym same_about) asked_about;
+            class = (λ i. is_in (row_views old) (row_views new)
+                ((ap user_of n.class ∙ class_user users d.class) i) (n.class i))
+                ∙ class_shown (row_views old) (row_views new) (row_views made_old)
+                (row_views made_new) users (user_of d.class) d.class m.listed m.names is.class;
+            direction = refl;
+            change = (λ i. is_changed (n.way i) old new (same_about i))
+                ∙ sym (change_made d.way (user_of d.class) d.topic r.new_topic d.direction is.valid
+                e n.named)
+                ∙ moved_change d.way refl;
+            old_line = n.old_line ∙ is.old_reason ∙ moved_old
+                ∙ reason_old (user_of d.class) d.topic d.direction is.valid e
+                ∙ ap (old_reason old) (sym same_about);
+            new_line = n.new_line ∙ is.new_reason ∙ moved_new
+                ∙ reason_new (user_of d.class) d.topic r.new_topic d.direction is.valid e n.named
+                ∙ ap (new_reason new) (sym same_about);
+            rule = n.rule ∙ ap (rule_line plan) (sym n.topic);
+          };
           marked = λ text. n.marked text
               ∙ (λ i. is_of text (sym n.client_is i)
               (sym (ap user_of n.class ∙ class_user users d.class) i) (sym n.topic i)

@@ -30,7 +30,7 @@ module _ (plan : List PlanRule) (old new : List Row) where
   new_grants : (q : Question) → new_allows new q ≡ is_grant (new_reason new q)
   new_grants q = allows_by_reason new q.client q.user q.name q.direction
 
-  changes_alike : (way : Way) (q t : Question) → StandsFor plan old new q t
+  pub changes_alike : (way : Way) (q t : Question) → StandsFor plan old new q t
       → is_changed way old new t ≡ is_changed way old new q
   changes_alike way q t s =
       (λ i. changes way

@@ -19,7 +19,7 @@ use Rattle.mq_through.proofs.TextLemmas.{IsStandIn}
 use Rattle.mq_through.proofs.NamedLemmas.{named_short, short_is}
 use Rattle.mq_through.proofs.StandLemmas.{standing, stands}
 
-some_text : (x : List ℕ) → can_be_id x ≡ true → (length x == 0) ≡ false
+pub some_text : (x : List ℕ) → can_be_id x ≡ true → (length x == 0) ≡ false
 some_text [] h = absurd (let q : false ≡ true = h in cc)
 some_text (x ∷ xs) h = not_empty (length xs)
 

@@ -21,7 +21,9 @@ mod FreshLemmas
 mod UnnamedLemmas
 mod TriedLemmas
 mod NamedLemmas
+mod QuestionLemmas
 mod StandLemmas
 mod FoundLemmas
+mod ExchangeLemmas
 mod NeededLemmas
 mod IdleLemmas

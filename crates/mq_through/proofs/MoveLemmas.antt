@@ -39,7 +39,6 @@ pub record IsMove (named : List ℕ → Bool) (asks : Bool) (c d : List ℕ) (u 
   pub user : (t : List ℕ) → can_be_level t ≡ true → is_user (f t) v ≡ is_user t u
   pub dollar : (t : List ℕ) → begins_with_dollar (f t) ≡ begins_with_dollar t
   pub level : (t : List ℕ) → can_be_level t ≡ true → can_be_level (f t) ≡ true
-  pub short : (t : List ℕ) → can_be_level t ≡ true → length (f t) ≤ 321
   pub some : (t : List ℕ) → (length (f t) == 0) ≡ (length t == 0)
 
 pub not_empty : (n : ℕ) → (suc n == 0) ≡ false
@@ -151,15 +150,15 @@ module _ (named : List ℕ → Bool) (asks : Bool) (c d : List ℕ) (u v : Optio
       (subst (λ n. 0 < n) (sym (length-map (levels name) f)) (levels-nonempty name))
       (lacking (levels name) (name_is name h).can)
 
-  pub short_levels : (ls : List (List ℕ)) → list_all can_be_level ls ≡ true
-      → list_all is_name_level (map f ls) ≡ true
-  short_levels [] h = refl
-  short_levels (l ∷ ls) h =
+  pub short_levels : ((t : List ℕ) → length (f t) ≤ 321) → (ls : List (List ℕ))
+      → list_all can_be_level ls ≡ true → list_all is_name_level (map f ls) ≡ true
+  short_levels short [] h = refl
+  short_levels short (l ∷ ls) h =
       let parts = and_parts (can_be_level l) (list_all can_be_level ls) h in
       and_from (is_name_level (f l)) (list_all is_name_level (map f ls))
       (and_from (can_be_level (f l)) (nat_le (length (f l)) 321) (m.level l parts.0)
-      (le-leb (length (f l)) 321 (m.short l parts.0)))
-      (short_levels ls parts.1)
+      (le-leb (length (f l)) 321 (short l)))
+      (short_levels short ls parts.1)
 
   suits_moved : (ls : List (List ℕ)) → suits Dollar (map f ls) ≡ suits Dollar ls
   suits_moved [] = refl

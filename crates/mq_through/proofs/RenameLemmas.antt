@@ -95,7 +95,7 @@ module _ (named : List ℕ → Bool) (asks : Bool) (c d : List ℕ) (u v : Optio
         (λ i. becomes_moved q (All-head P q qs h) i ++ new_moved qs (All-tail P q qs h) i)
         ∙ sym (map-append f (becomes front ls q) (flat_map (becomes front ls) qs))
 
-  -- ---- a name with its levels moved is a name
+  -- ---- a name with its levels moved is a name, where none of them is long
   suits_in : (ls : List (List ℕ)) → suits Inside (map f ls) ≡ suits Inside ls
   suits_in ls = suits_inside (map f ls) ∙ sym (suits_inside ls)
 
@@ -114,11 +114,12 @@ module _ (named : List ℕ → Bool) (asks : Bool) (c d : List ℕ) (u v : Optio
       ∙ ap (λ b. not (begins_with_dollar l) && b) (suits_behind (length l == 0) ls)
   suits_any true (l ∷ ls) = (λ i. m.dollar l i && suits_in ls i)
 
-  pub name_moved : (name : List ℕ) → is_name name ≡ true → is_name (moved f name) ≡ true
-  name_moved name h =
+  pub name_moved : ((t : List ℕ) → length (f t) ≤ 321) → (name : List ℕ) → is_name name ≡ true
+      → is_name (moved f name) ≡ true
+  name_moved short name h =
       let is = name_is name h in
       joined_is_name (map f (levels name)) (begins_with_dollar name)
-      (short_levels named asks c d u v f m (levels name) is.can)
+      (short_levels named asks c d u v f m short (levels name) is.can)
       (subst (λ n. n ≤ 200) (sym (length-map (levels name) f)) is.few)
       (suits_any (begins_with_dollar name) (levels name)
       ∙ name_suits name (begins_with_dollar name) is.some refl)
@@ -215,15 +216,16 @@ module _ (named : List ℕ → Bool) (asks : Bool) (c d : List ℕ) (u v : Optio
         ∙ ap (λ ls. join_levels (map f ls)) (sym (new_text_levels name k))
 
     pub renamed_moved : (name new : List ℕ) → is_name name ≡ true
-        → new_name r name ≡ Some new → new_name r (moved f name) ≡ Some (moved f new)
-    renamed_moved name new h e =
+        → is_name (moved f new) ≡ true → new_name r name ≡ Some new
+        → new_name r (moved f name) ≡ Some (moved f new)
+    renamed_moved name new h g e =
         let found = parts (matches (levels r.left) (levels name) && is_name (new_text r name))
         (new_text r name) e in
         let both = and_parts (matches (levels r.left) (levels name)) (is_name (new_text r name))
         found.0 in
         let text = new_text_moved name h both.1 in
         (λ i. cond ((sym (matches_moved (levels r.left) name h lefts) ∙ both.0) i
-        && (ap is_name text ∙ name_moved (new_text r name) both.1) i)
+        && (ap is_name text ∙ ap (λ t. is_name (moved f t)) found.1 ∙ g) i)
         (Some (new_text r (moved f name))) None)
         ∙ ap (λ t. Some t) text ∙ ap (λ t. Some (moved f t)) found.1
       where
@@ -277,18 +279,19 @@ module _ (named : List ℕ → Bool) (asks : Bool) (c d : List ℕ) (u v : Optio
         at false i later = later i
 
     act_moved : (rule : PlanRule) (act : Act) (new : List ℕ) → rule.act ≡ act → IsKnownRule rule
-        → name_in act name ≡ Some new → name_in act (moved f name) ≡ Some (moved f new)
-    act_moved rule (Renamed r) new a k e =
-        renamed_moved r (λ t g. k.left t (ap (λ x. is_literal_in t (levels (left_in x))) a ∙ g))
-        (λ t g. k.right r (ap rename_in a) t g) name new h e
-    act_moved rule (Kept filter) new a k e =
+        → is_name (moved f new) ≡ true → name_in act name ≡ Some new
+        → name_in act (moved f name) ≡ Some (moved f new)
+    act_moved rule (Renamed r) new a k g e =
+        renamed_moved r (λ t i. k.left t (ap (λ x. is_literal_in t (levels (left_in x))) a ∙ i))
+        (λ t i. k.right r (ap rename_in a) t i) name new h g e
+    act_moved rule (Kept filter) new a k g e =
         let same : name ≡ new = cc in ap (λ t. Some (moved f t)) same
-    act_moved rule (Gone filter) new a k e = absurd (let q : None ≡ Some new = e in cc)
+    act_moved rule (Gone filter) new a k g e = absurd (let q : None ≡ Some new = e in cc)
 
     pub plan_moved : (plan : List PlanRule) (new : List ℕ) → All IsKnownRule plan
-        → plans.new_name plan name ≡ Some new
+        → is_name (moved f new) ≡ true → plans.new_name plan name ≡ Some new
         → plans.new_name plan (moved f name) ≡ Some (moved f new)
-    plan_moved plan new k e =
+    plan_moved plan new k valid e =
         ap (λ o. decided_name o plan (moved f name)) (sym (rule_moved plan k))
         ∙ at (rule_for plan name) refl e
       where
@@ -307,4 +310,4 @@ module _ (named : List ℕ → Bool) (asks : Bool) (c d : List ℕ) (u v : Optio
                 ap (λ b. cond b None (Some (moved f name))) (sym (taken_moved plan k) ∙ j)
                 ∙ ap (λ t. Some (moved f t)) same
         at (Some rule) i e =
-            act_moved rule rule.act new refl (found_known plan rule k i) e
+            act_moved rule rule.act new refl (found_known plan rule k i) valid e

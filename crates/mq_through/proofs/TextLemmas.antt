@@ -262,7 +262,7 @@ module _ (named : List ℕ → Bool) (asks : Bool) (c d : List ℕ)
       cases_for (λ y. can_be_level y ≡ true) u t h (λ a n e. s.level a n)
       (user_level (begins_with_dollar t)) (other_level (begins_with_dollar t))
 
-  short_for : (u : Option (List ℕ)) (t : List ℕ) → length (text_for u t) ≤ 321
+  pub short_for : (u : Option (List ℕ)) (t : List ℕ) → length (text_for u t) ≤ 321
   short_for u t = at (length t == 0) (named t) refl refl
     where
       of_user : (v : Option (List ℕ)) → named t ≡ false → length (user_or v t) ≤ 321
@@ -341,29 +341,8 @@ module _ (named : List ℕ → Bool) (asks : Bool) (c d : List ℕ)
     user = λ t h. user_for_is u t some;
     dollar = dollar_for u;
     level = level_for u;
-    short = λ t h. short_for u t;
     some = some_for u;
   }
-
-  -- a user name is what is named just where it was
-  pub user_apart : (x w : List ℕ) → named w ≡ true → bytes_eq x w ≡ bytes_eq (user_text x) w
-  user_apart x w h = at (named x) refl
-    where
-      unnamed : (b : Bool) → named x ≡ false → (asks && bytes_eq x c) ≡ b
-          → named (cond b d (other_user (begins_with_dollar x))) ≡ false
-      unnamed true e g = let own = its_own x e g in s.unknown own.1 own.0
-      unnamed false e g = long_unnamed (other_user (begins_with_dollar x))
-          (user_long (begins_with_dollar x))
-
-      at : (n : Bool) → named x ≡ n → bytes_eq x w
-          ≡ bytes_eq (cond n x (cond (asks && bytes_eq x c) d
-          (other_user (begins_with_dollar x)))) w
-      at true e = refl
-      at false e =
-          swapped w x (differ w x h e)
-          ∙ sym (swapped w (cond (asks && bytes_eq x c) d (other_user (begins_with_dollar x)))
-          (differ w (cond (asks && bytes_eq x c) d (other_user (begins_with_dollar x))) h
-          (unnamed (asks && bytes_eq x c) e refl)))
 
   pub user_unnamed : (x : List ℕ) → named x ≡ false → named (user_text x) ≡ false
   user_unnamed x e =

@@ -1,5 +1,5 @@
--- What lists and plans have to keep to, and what is shown where they can't be compared.
-use Rattle.std.specs.Prelude.{◌≡◌, ℕ, Bool, true, false, List, ◌||◌, find, ⊤}
+-- What lists and plans have to keep to.
+use Rattle.std.specs.Prelude.{◌≡◌, ℕ, Bool, true, false, List, ◌||◌, find}
 use Rattle.std.specs.Prelude.{Option, Some, None}
 use Rattle.std.specs.Option.{option_map}
 use Rattle.mq_topic.specs.Levels.{levels}
@@ -14,9 +14,6 @@ use Rattle.mq_rename.specs.Renames as renames
 use Rattle.mq_plan.specs.Names.{left_of, rename_of, rule_for}
 use Rattle.mq_plan.specs.declared.rule.PlanRule.{PlanRule}
 use Rattle.mq_regions.specs.Regions.{has_mark, is_mark}
-use Rattle.mq_through.specs.Named.{IsNoClient}
-use Rattle.mq_through.specs.declared.fault.ThroughFault.{ThroughFault}
-use Rattle.mq_through.specs.declared.fault.ThroughFault.TheVariants as faults
 
 -- the row is of a `topic` line, with a level `%c` or `%u`, or a user name
 abbrev pub has_topic_mark : Who → List ℕ → Bool
@@ -63,15 +60,3 @@ pub record HasNoName (plan : List PlanRule) (line : ℕ) (topic : List ℕ) : Ty
 
 abbrev pub IsLongName : List PlanRule → ℕ → Type 0
 IsLongName plan line = (topic : List ℕ) × ((is_name topic ≡ true) × HasNoName plan line topic)
-
--- what is shown is so
-abbrev pub IsThroughFault : List PlanRule → (old new : List Row) → ThroughFault → Type 0
-IsThroughFault plan old new faults.Memory = ⊤
-IsThroughFault plan old new (faults.OldLine line) = long_line old ≡ Some line
-IsThroughFault plan old new (faults.NewLine line) = long_line new ≡ Some line
-IsThroughFault plan old new (faults.OldMark line) = marked_line old ≡ Some line
-IsThroughFault plan old new (faults.NewMark line) = marked_line new ≡ Some line
-IsThroughFault plan old new (faults.Rule line) = unfit_line plan ≡ Some line
-IsThroughFault plan old new (faults.LongName line) = IsLongName plan line
-IsThroughFault plan old new faults.NoClient = IsNoClient plan old new
-IsThroughFault plan old new faults.GaveUp = ⊤

@@ -5,4 +5,5 @@ pub mod Parts
 pub mod Made
 pub mod Tried
 pub mod Clients
+pub mod Faults
 pub mod Needed

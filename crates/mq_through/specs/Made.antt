@@ -1,5 +1,5 @@
 -- The lists that are made for one region and one client.
-use Rattle.std.specs.Prelude.{◌≡◌, ℕ, Bool, true, false, List, ◌&&◌, not, if◌then◌else◌}
+use Rattle.std.specs.Prelude.{◌≡◌, ◌<◌, ℕ, Bool, true, false, List, ◌&&◌, not, if◌then◌else◌}
 use Rattle.std.specs.Prelude.{Option, Some, None, string_bytes}
 use denote.Ref.{Bor}
 use Rattle.mq_topic.specs.Texts.{is_name}
@@ -20,6 +20,7 @@ use Rattle.mq_differences.specs.declared.class.Class.TheVariants.{User, Others}
 use Rattle.mq_differences.specs.declared.difference.Difference.{Difference}
 use Rattle.mq_differences.specs.declared.fault.ComparisonFault.{ComparisonFault}
 use Rattle.mq_differences.specs.declared.fault.ComparisonFault.TheVariants as comparison
+use Rattle.mq_differences.specs.Steps.{enough_steps}
 use Rattle.mq_plan.specs.Names.{new_name}
 use Rattle.mq_plan.specs.declared.rule.PlanRule.{PlanRule}
 use Rattle.mq_regions.specs.Deciding.{first_line}
@@ -131,11 +132,11 @@ IsNameFault plan topic (faults.LongName line) =
     (rule_line plan topic ≡ Some line) × (new_name plan topic ≡ None)
 IsNameFault plan topic fault = ⊥
 
--- there was no memory, or the steps don't suffice
-abbrev pub IsStop : ThroughFault → Type 0
-IsStop faults.Memory = Unit {0}
-IsStop faults.GaveUp = Unit {0}
-IsStop fault = ⊥
+-- there was no memory, or fewer steps are given than are enough for so many rows
+abbrev pub IsStop : (rows steps : ℕ) → ThroughFault → Type 0
+IsStop rows steps faults.Memory = Unit {0}
+IsStop rows steps faults.GaveUp = steps < enough_steps rows
+IsStop rows steps fault = ⊥
 
 -- so too of the comparison of two lists
 abbrev pub IsCompareStop : ComparisonFault → Type 0

@@ -4,12 +4,14 @@ use Rattle.std.specs.Prelude.{string_bytes}
 use Rattle.std.specs.List.{AllPairs, list_any}
 use Rattle.std.specs.Option.{option_map}
 use Rattle.mq_topic.specs.Texts.{is_name}
-use Rattle.mq_acl.specs.Access.{rows_allow}
+use Rattle.mq_acl.specs.Access.{begins_with_dollar, rows_allow}
 use Rattle.mq_acl.specs.Views.{row_views}
 use Rattle.mq_acl.specs.declared.access.Direction.{Direction}
 use Rattle.mq_acl.specs.declared.row.Row.{Row}
 use Rattle.mq_acl.specs.declared.rules.Rules.TheVariants.{Own}
+use Rattle.mq_cover.specs.Names.{can_be_level}
 use Rattle.mq_witness.specs.Clients.{can_be_id}
+use Rattle.mq_witness.specs.Swaps.{swap, swap_name, swap_user}
 use Rattle.mq_differences.specs.Classes.{can_be_user, is_in, user_of}
 use Rattle.mq_differences.specs.Differences.{has_text, is_of, same_class, same_direction}
 use Rattle.mq_differences.specs.Differences.{same_reason}
@@ -118,13 +120,48 @@ IsMarked plan old new r = (text : List ℕ) → has_text r.difference.placeholde
     ≡ (is_of text (string_bytes r.difference.client) (user_of r.difference.class)
     r.difference.topic && not (is_named_in plan old new text))
 
+-- it is so of this question: a broker can have it, it is of the class, it changes that way, and
+-- these lines and this rule decide
+pub record Shows (plan : List PlanRule) (old new : List Row) (r : Renamed) (q : Question) : Type 0
+  where
+    pub asked : IsQuestion plan q
+    pub class : is_in (row_views old) (row_views new) q.user r.difference.class ≡ true
+    pub direction : q.direction ≡ r.difference.direction
+    pub change : is_changed r.difference.way old new q ≡ true
+    pub old_line : r.difference.old_reason ≡ old_reason old q
+    pub new_line : r.difference.new_reason ≡ new_reason new q
+    pub rule : r.rule ≡ rule_line plan q.topic
+
 -- it is so of the client and the topic that it names
 pub record IsReal (plan : List PlanRule) (old new : List Row) (r : Renamed) : Type 0 where
-  pub asked : IsQuestion plan (question_of r)
-  pub class : is_in (row_views old) (row_views new) (user_of r.difference.class) r.difference.class
-      ≡ true
-  pub change : is_changed r.difference.way old new (question_of r) ≡ true
-  pub old_line : r.difference.old_reason ≡ old_reason old (question_of r)
-  pub new_line : r.difference.new_reason ≡ new_reason new (question_of r)
-  pub rule : r.rule ≡ rule_line plan r.difference.topic
+  pub shown : Shows plan old new r (question_of r)
   pub marked : IsMarked plan old new r
+
+-- a placeholder stands for this other text: neither list and no rule names that, each of the two can
+-- be a client id, and the other can be a level, and begins with `$`, just where the placeholder does
+pub record StandsForText (plan : List PlanRule) (old new : List Row) (r : Renamed)
+    (text other : List ℕ) : Type 0 where
+  pub placeholder : has_text r.difference.placeholders.items text ≡ true
+  pub unnamed : is_named_in plan old new other ≡ false
+  pub id : can_be_id text ≡ true
+  pub other_id : can_be_id other ≡ true
+  pub level : can_be_level other ≡ can_be_level text
+  pub dollar : begins_with_dollar other ≡ begins_with_dollar text
+
+-- both texts in each other's place
+abbrev pub exchanged : (text other : List ℕ) → Question → Question
+exchanged text other q = record {
+  client = swap text other q.client;
+  user = swap_user text other q.user;
+  direction = q.direction;
+  topic = swap_name text other q.topic;
+  name = swap_name text other q.name;
+}
+
+-- it is so too with any text in the place of a placeholder that stands for it, in the new name too,
+-- where both are topic names then
+abbrev pub ShowsOthers : List PlanRule → (old new : List Row) → Renamed → Type 0
+ShowsOthers plan old new r = (text other : List ℕ) → StandsForText plan old new r text other
+    → is_name (swap_name text other r.difference.topic) ≡ true
+    → is_name (swap_name text other r.new_topic) ≡ true
+    → Shows plan old new r (exchanged text other (question_of r))

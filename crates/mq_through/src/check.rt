@@ -1,12 +1,13 @@
 //! What lists and plans have to keep to.
-ghost use Rattle.std.specs.Prelude.{◌≡◌, IfNone, IfSome};
+ghost use Rattle.std.specs.Prelude.{◌≡◌, ℕ, IfNone, IfSome};
 ghost use Rattle.std.specs.Option.{option_copied};
 ghost use Rattle.mq_topic.specs.Levels.{levels};
 ghost use Rattle.mq_acl.specs.Views.{owner_view};
 ghost use Rattle.mq_rename.specs.Lists.{has_long};
 ghost use Rattle.mq_regions.specs.Regions.{has_mark, is_mark};
-ghost use Rattle.mq_through.specs.Checks.{AreFit, IsThroughFault, has_topic_mark, is_unfit};
+ghost use Rattle.mq_through.specs.Checks.{AreFit, has_topic_mark, is_unfit};
 ghost use Rattle.mq_through.specs.Checks.{is_unfit_right, is_unfit_side, marked_line, unfit_line};
+ghost use Rattle.mq_through.specs.Faults.{IsThroughFault};
 
 use crate::fault::ThroughFault;
 use mq_acl::{Owner, Row};
@@ -85,7 +86,8 @@ fn unfit_line(plan: &Plan) -> Option<u64>
 /// What keeps the lists and the plan from being compared, if anything does.
 pub(crate) fn first_fault(plan: &Plan, old: &[Row], new: &[Row]) -> Option<ThroughFault>
     ensures none { IfNone result (AreFit plan.now old.now new.now) }
-    ensures some { IfSome result (IsThroughFault plan.now old.now new.now) }
+    ensures some { IfSome result (λ fault. (steps : ℕ)
+        → IsThroughFault plan.now old.now new.now steps fault) }
 {
     if let Some(line) = long_line(old) {
         return Some(ThroughFault::OldLine(line));

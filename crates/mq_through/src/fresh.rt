@@ -1,7 +1,7 @@
 //! Client ids that no list and no rule names.
 ghost use Rattle.std.specs.Prelude.{IfOk, IfErr, string_bytes};
-ghost use Rattle.mq_through.specs.Checks.{IsThroughFault};
 ghost use Rattle.mq_through.specs.Clients.{AreFresh, IsFreshFault, IsUnused};
+ghost use Rattle.mq_through.specs.Faults.{IsThroughFault};
 
 use crate::comparison::Comparison;
 use crate::fault::ThroughFault;
@@ -46,7 +46,7 @@ impl Fresh {
     pub fn find(alloc: Global, comparison: &Comparison) -> Result<Fresh, ThroughFault>
         ensures fresh { IfOk result (AreFresh comparison.now) }
         ensures fault { IfErr result (IsThroughFault comparison.now.plan.now comparison.now.old.now
-            comparison.now.new.now) }
+            comparison.now.new.now comparison.now.steps) }
     {
         if !ask_client(comparison) {
             let any = String::from_str(alloc, "client")?;

@@ -1,9 +1,10 @@
 //! What changes through a plan.
 ghost use Rattle.std.specs.Prelude.{◌≡◌, [], All, IfOk, IfErr};
-ghost use Rattle.mq_through.specs.Checks.{AreFit, IsThroughFault};
+ghost use Rattle.mq_through.specs.Checks.{AreFit};
+ghost use Rattle.mq_through.specs.Faults.{IsThroughFault};
 ghost use Rattle.mq_through.specs.Made.{IsComparison};
 ghost use Rattle.mq_through.specs.Through.{AreApart, IsQuestion, IsReal, Question, ShowsAll};
-ghost use Rattle.mq_through.specs.Through.{new_allows, old_allows};
+ghost use Rattle.mq_through.specs.Through.{ShowsOthers, new_allows, old_allows};
 
 use crate::check::first_fault;
 use crate::clients::clients;
@@ -32,6 +33,7 @@ fn comparison<'a>(
     ensures plan { IfOk result (λ c. c.plan.now ≡ plan.entry.now) }
     ensures old { IfOk result (λ c. c.old.now ≡ old.entry.now) }
     ensures new { IfOk result (λ c. c.new.now ≡ new.entry.now) }
+    ensures steps { IfOk result (λ c. c.steps ≡ steps) }
 {
     let mut users = Vec::new(alloc);
     add_users(&mut users, old)?;
@@ -53,8 +55,10 @@ fn changes(alloc: Global, comparison: &Comparison) -> Result<Vec<Renamed>, Throu
     ensures once { IfOk result (λ all. AreApart all.items) }
     ensures every { IfOk result (λ all. ShowsAll comparison.now.plan.now comparison.now.old.now
         comparison.now.new.now all.items) }
+    ensures others { IfOk result (λ all. All (ShowsOthers comparison.now.plan.now
+        comparison.now.old.now comparison.now.new.now) all.items) }
     ensures fault { IfErr result (IsThroughFault comparison.now.plan.now comparison.now.old.now
-        comparison.now.new.now) }
+        comparison.now.new.now comparison.now.steps) }
 {
     let spares = Spares::new(alloc)?;
     let regions = parts(alloc, comparison.plan, &spares)?;
@@ -90,7 +94,8 @@ pub fn compare_through(
     ensures once { IfOk result (λ all. AreApart all.items) }
     ensures same { IfOk result (λ all. all.items ≡ [] → (q : Question) → IsQuestion plan.now q
         → old_allows old.now q ≡ new_allows new.now q) }
-    ensures fault { IfErr result (IsThroughFault plan.now old.now new.now) }
+    ensures others { IfOk result (λ all. All (ShowsOthers plan.now old.now new.now) all.items) }
+    ensures fault { IfErr result (IsThroughFault plan.now old.now new.now steps) }
 {
     if let Some(fault) = first_fault(plan, old, new) {
         return Err(fault);

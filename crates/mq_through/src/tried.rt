@@ -1,12 +1,14 @@
 //! What changes for the client ids that are tried.
-ghost use Rattle.std.specs.Prelude.{◌≡◌, All, IfOk, IfErr, OnOk, false, true};
+ghost use Rattle.std.specs.Prelude.{◌≡◌, ◌+◌, ℕ, List, All, IfOk, IfErr, OnOk, false, length, true};
 ghost use Rattle.std.specs.Option.{option_copied};
 ghost use Rattle.mq_acl.specs.Views.{row_views};
+ghost use Rattle.mq_acl.specs.declared.row.Row.{Row};
 ghost use Rattle.mq_acl.specs.declared.rules.Rules.TheVariants as rules;
 ghost use Rattle.mq_differences.specs.Differences.{IsReal, ShowsAll};
+ghost use Rattle.mq_differences.specs.Faults.{IsComparisonFault};
 ghost use Rattle.mq_differences.specs.declared.class.Class.{Class};
 ghost use Rattle.mq_regions.specs.Limits.{has_long_row};
-ghost use Rattle.mq_through.specs.Checks.{IsThroughFault};
+ghost use Rattle.mq_through.specs.Faults.{IsThroughFault};
 ghost use Rattle.mq_through.specs.Made.{HasRule, IsClient, IsComparison, IsNameFault, IsRenamed};
 ghost use Rattle.mq_through.specs.Made.{IsCompareStop, IsMade, IsStop, class_in};
 ghost use Rattle.mq_through.specs.Needed.{AreNeeded};
@@ -52,7 +54,8 @@ fn class_in(users: &[&str], class: Class) -> Class
 // What is said where lists without long rows can't be compared.
 fn stop(fault: ComparisonFault) -> ThroughFault
     requires { IsCompareStop fault }
-    ensures { IsStop result }
+    ensures { (old new : List Row) (steps : ℕ) → IsComparisonFault rules.Own old new steps fault
+        → IsStop (length old + length new) steps result }
 {
     match fault {
         ComparisonFault::Memory => ThroughFault::Memory,
@@ -75,7 +78,7 @@ fn differences(
     requires new { has_long_row (row_views new.now) ≡ false }
     ensures every { IfOk result (λ all. ShowsAll rules.Own old.now new.now all.items) }
     ensures real { IfOk result (λ all. All (IsReal rules.Own old.now new.now) all.items) }
-    ensures fault { IfErr result IsStop }
+    ensures fault { IfErr result (IsStop (length old.now + length new.now) steps) }
 {
     match compare(alloc, Rules::Own, old, new, steps) {
         Ok(all) => Ok(all),
@@ -134,7 +137,7 @@ fn add_client(
     ensures shown { OnOk result (ShowsChangesIn comparison.now.plan.now comparison.now.old.now
         comparison.now.new.now region.now client.now found.new.items) }
     ensures fault { IfErr result (IsThroughFault comparison.now.plan.now comparison.now.old.now
-        comparison.now.new.now) }
+        comparison.now.new.now comparison.now.steps) }
 {
     for difference in differences(alloc, &made.old, &made.new, comparison.steps)? {
         let renamed = renamed(alloc, comparison, client, difference)?;
@@ -182,7 +185,7 @@ fn add_next(
         comparison.now.new.now region.now client.now found.new.items) }
     ensures made { IfOk result (IsMade comparison.now region.now client.now) }
     ensures fault { IfErr result (IsThroughFault comparison.now.plan.now comparison.now.old.now
-        comparison.now.new.now) }
+        comparison.now.new.now comparison.now.steps) }
 {
     let made = Made::of(alloc, comparison, region, needed, client)?;
     if is_last(alloc, region, last, &made)? {
@@ -208,7 +211,7 @@ fn add_region(
     ensures shown { OnOk result (ShowsTriedIn comparison.now.plan.now comparison.now.old.now
         comparison.now.new.now region.now clients.now found.new.items) }
     ensures fault { IfErr result (IsThroughFault comparison.now.plan.now comparison.now.old.now
-        comparison.now.new.now) }
+        comparison.now.new.now comparison.now.steps) }
 {
     let needed = Needed::of(alloc, comparison, region)?;
     let mut last: Option<Made> = None;
@@ -243,7 +246,7 @@ pub(crate) fn compare_tried(
     ensures shown { IfOk result (λ all. ShowsTried comparison.now.plan.now comparison.now.old.now
         comparison.now.new.now clients.now all.items) }
     ensures fault { IfErr result (IsThroughFault comparison.now.plan.now comparison.now.old.now
-        comparison.now.new.now) }
+        comparison.now.new.now comparison.now.steps) }
 {
     let mut found = Vec::new(alloc);
     for region in regions {

@@ -10,3 +10,6 @@ returns-clause-same c =
     k.new.now all.items c.in_ok-comparison.ensures.plan c.in_ok-comparison.ensures.old
     c.in_ok-comparison.ensures.new every)
     c.changes.ensures.every
+
+pub returns-in-Some-clause-fault : goal.returns-in-Some-clause-fault
+returns-in-Some-clause-fault c = c.in-Some.ensures.some c.args.steps

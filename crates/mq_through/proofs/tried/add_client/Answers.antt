@@ -9,6 +9,7 @@ use Rattle.mq_differences.specs.declared.difference.Difference.{Difference}
 use Rattle.mq_through.proofs.AddingLemmas.{IsAdding, adding_all, adding_more, all_seen, are_made}
 use Rattle.mq_through.proofs.AddingLemmas.{real_at}
 use Rattle.mq_through.proofs.ClientLemmas.{differs_by, name_fault}
+use Rattle.mq_through.proofs.FaultLemmas.{few_steps}
 use Rattle.mq_through.proofs.tried.add_client.Goals as goal
 
 pub renamed-requires : goal.renamed-requires
@@ -31,6 +32,15 @@ renamed-requires c =
     (length c.loop-difference.yielded) c.in-Some.difference c.deref.ensures.value
     c.deref-2.ensures.value c.in_ok-difference-items.ensures.real turn.0 turn.1)
 
+pub returns-in_err-difference-items-clause-fault : goal.returns-in_err-difference-items-clause-fault
+returns-in_err-difference-items-clause-fault c =
+    let fault = err_from_is_err_and c.from_residual.result
+    c.from_residual.ensures.1 in
+    rw (fault.1, fault.2) (few_steps c.args.comparison.now c.args.region.now c.args.client.now
+    c.args.made.now c.deref.result.now c.deref-2.result.now c.in_err-difference-items.field-0.0
+    c.requires.region c.requires.client c.requires.made c.deref.ensures.value
+    c.deref-2.ensures.value c.in_err-difference-items.ensures.fault)
+
 pub returns-in_err-renamed-clause-fault : goal.returns-in_err-renamed-clause-fault
 returns-in_err-renamed-clause-fault c =
     let k = c.args.comparison.now in
@@ -49,7 +59,7 @@ returns-in_err-renamed-clause-fault c =
     c.args.client.now k.users.items old new
     (are_made k c.args.region.now c.args.client.now old new c.requires.comparison
     c.requires.region c.requires.client c.requires.made.old_list c.requires.made.new_list
-    c.requires.made.names) c.in-Some.difference c.in_err-renamed.field-0.0
+    c.requires.made.names) k.steps c.in-Some.difference c.in_err-renamed.field-0.0
     (real_at old new c.deref.result.now c.deref-2.result.now all
     (length c.loop-difference.yielded) c.in-Some.difference c.deref.ensures.value
     c.deref-2.ensures.value c.in_ok-difference-items.ensures.real turn.0 turn.1)
