@@ -13,7 +13,7 @@ use Rattle.mq_acl.specs.AccessLists.{rules_named}
 use Rattle.mq_acl.specs.declared.access.Direction.{Direction}
 use Rattle.mq_acl.specs.declared.access.Direction.TheVariants.{Reading, Writing}
 use Rattle.mq_acl.specs.declared.rules.Rules.{Rules}
-use Rattle.mq_acl.specs.declared.rules.Rules.TheVariants.{Own}
+use Rattle.mq_acl.specs.declared.rules.Rules.TheVariants.{Mosquitto}
 use Rattle.mq_differences.specs.declared.way.Way.{Way}
 use Rattle.mq_differences.specs.declared.way.Way.TheVariants.{Gained, Lost}
 use Rattle.mq_args.specs.Arguments.{any_arguments, flag, number_option, option, optional_argument}
@@ -25,7 +25,7 @@ use Rattle.mq_args.specs.declared.usage.UsageFault.TheVariants.{Help, Usage, Mem
 use Rattle.mq_acl_args.specs.Files.{input_count, script_file}
 use Rattle.mq_acl_args.specs.declared.command_line.Subcommand.{Subcommand}
 use Rattle.mq_acl_args.specs.declared.request.Request.{Request}
-use Rattle.mq_acl_args.specs.declared.client.Client.{Client}
+use Rattle.mq_ask.specs.declared.client.Client.{Client}
 use Rattle.mq_acl_args.specs.declared.question.Subscriptions.{Subscriptions}
 use Rattle.mq_acl_args.specs.declared.question.Subscriptions.TheVariants as about
 use Rattle.mq_acl_args.specs.declared.question.Question.{Question}
@@ -276,20 +276,12 @@ asked name rows =
     else (if bytes_eq name (codes "test") then test_asked_by rows
     else None)))))
 
--- the rules in these values, or our own where none are; none where the word for them is unknown
+-- the rules in these values, or mosquitto's where none are; none where the word for them is unknown
 abbrev pub rules_asked : List Row → Option Rules
-rules_asked rows = option_map_or rules_named (first_of (codes "rules") rows) (Some Own)
+rules_asked rows = option_map_or rules_named (first_of (codes "rules") rows) (Some Mosquitto)
 
 abbrev pub rules_given : List Row → Rules
-rules_given rows = unwrap_or (rules_asked rows) Own
-
--- where mosquitto decides otherwise is noted where no rules are named
-abbrev pub noted_without : (rules : Option Text) → Bool
-noted_without None = true
-noted_without (Some word) = false
-
-abbrev pub noted_given : List Row → Bool
-noted_given rows = noted_without (first_of (codes "rules") rows)
+rules_given rows = unwrap_or (rules_asked rows) Mosquitto
 
 -- what the words ask, if they ask something by known rules
 abbrev pub asked_by_known : Option Rules → Option Asked → Option Asked
@@ -347,7 +339,6 @@ pub record IsAskedBy (subcommand : Option (Text × List Row)) (request : Request
       → request.options.json ≡ false
   pub steps : request.options.steps ≡ steps_given (values_of subcommand)
   pub rules : request.options.rules ≡ rules_given (values_of subcommand)
-  pub noted : request.options.noted ≡ noted_given (values_of subcommand)
 
 -- the request is what a subcommand with its values asks, and where there is none it asks nothing
 abbrev pub GivesAsked : Option (Text × List Row) → Option Request → Type 0

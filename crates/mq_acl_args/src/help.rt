@@ -5,13 +5,12 @@ pub(crate) const ABOUT: &str =
 
 pub(crate) const AFTER_HELP: &str = "\
 An access list is a file in the form of mosquitto.conf(5)'s acl_file. An answer
-holds for every client id that a broker can have, every user name that it can
-have or none, and every topic. It is by rules of our own; without --rules a note
-on standard error says where mosquitto 2.0 decides otherwise. With --rules
-mosquitto it is by those of mosquitto 2.0. Then compare and lint leave out ids
-and user names with /, + or # if a list has pattern lines; who, test and reach
---any always leave them out. A note on standard error says so, and a user whom
-a line names is shown as not asked. A file - is standard input.
+is by the rules of mosquitto 2.0, for every client id that a broker can have,
+every user name that it can have or none, and every topic. But compare and lint
+leave out ids and user names with /, + or # if a list has pattern lines; who,
+test and reach --any always leave them out. A note on standard error says so,
+and a user whom a line names is shown as not asked. With --rules own the answer
+is by rules of our own, and leaves out none. A file - is standard input.
 
 Exit status:
   0  compare: both lists allow the same, or differ only in the other way than
@@ -50,7 +49,7 @@ pub(crate) const USER_HELP: &str = "The user name of the client (none)";
 pub(crate) const STEPS_HELP: &str = "Give up after so many steps (200,000,000: some ten seconds)";
 
 pub(crate) const RULES_HELP: &str =
-    "By whose rules lists are read, and decide: own, or mosquitto for those of mosquitto 2.0 (own)";
+    "By whose rules lists are read, and decide: mosquitto for those of mosquitto 2.0, or own (mosquitto)";
 
 pub(crate) const JSON_HELP: &str = "Write JSON, one object a line";
 
@@ -80,7 +79,7 @@ where it may by OLD the topic, or there is a difference. A topic is shown as OLD
 NEW, and the line of the plan that renames it. Topics without a new name are left
 out. A plan has lines FROM -> TO, keep FROM and none FROM; the first that matches a
 topic decides. In FROM a level +hall has a name, and TO uses it; a # at the end of
-both stands for the rest. By --rules mosquitto there is no answer.
+both stands for the rest. It is answered by --rules own alone.
 
 --script SCRIPT counts how many publishes of the script a difference is about at
 most: those to topics that the filters of its lines match, where %c and %u match

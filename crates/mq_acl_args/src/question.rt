@@ -3,10 +3,9 @@ ghost use Rattle.std.specs.Prelude.{◌≡◌};
 ghost use Rattle.mq_acl_args.specs.CommandLine.{files_of, question_view, reach_view};
 ghost use Rattle.mq_acl_args.specs.Files.{input_count};
 
-use crate::client::Client;
 use crate::files::{input_in, inputs_among};
-use crate::selection::Selection;
 use mq_acl::Direction;
+use mq_ask::{Client, Selection};
 use mq_differences::Way;
 
 /// Which subscriptions it is asked about.

@@ -7,15 +7,13 @@ ghost use Rattle.mq_acl_args.specs.CommandLine.{all_asked, any_asked, compare_as
 ghost use Rattle.mq_acl_args.specs.CommandLine.{compare_asked_by, lint_asked, one_asked, through_asked};
 ghost use Rattle.mq_acl_args.specs.CommandLine.{reach_asked_by, rules_asked, some_asked};
 ghost use Rattle.mq_acl_args.specs.CommandLine.{access_asked, direction_named, steps_given, way_asked, way_named};
-ghost use Rattle.mq_acl_args.specs.CommandLine.{noted_given, test_asked_by};
+ghost use Rattle.mq_acl_args.specs.CommandLine.{test_asked_by};
 ghost use Rattle.mq_acl_args.specs.CommandLine.{who_asked_by, why_asked_by};
 
-use crate::client::Client;
-use crate::options::Options;
 use crate::question::{Compare, Question, Reach, Subscriptions, Test, Through, Who, Why};
-use crate::selection::Selection;
 use clap::ArgMatches;
 use mq_acl::{Direction, Rules};
+use mq_ask::{Client, Options, Selection};
 use mq_differences::Way;
 use std::alloc::{AllocError, Global};
 
@@ -336,23 +334,13 @@ fn steps_in(matches: &ArgMatches<'_>) -> u64
     u64::from(matches.get_one("steps").unwrap_or(USUAL_STEPS))
 }
 
-// By whose rules, if the word for them is known: by our own where there is none.
+// By whose rules, if the word for them is known: by mosquitto's where there is none.
 fn rules_in(matches: &ArgMatches<'_>) -> Option<Rules>
     ensures { result ≡ rules_asked (rows_of (found_of matches.now)) }
 {
     match value(matches, "rules") {
         Some(word) => Rules::named(word),
-        None => Some(Rules::Own),
-    }
-}
-
-// Whether where mosquitto decides otherwise is noted: where no rules are named.
-fn noted_in(matches: &ArgMatches<'_>) -> bool
-    ensures { result ≡ noted_given (rows_of (found_of matches.now)) }
-{
-    match value(matches, "rules") {
-        Some(_) => false,
-        None => true,
+        None => Some(Rules::Mosquitto),
     }
 }
 
@@ -371,7 +359,6 @@ fn request_of<'a>(
         json: matches.get_flag("json"),
         steps: steps_in(matches),
         rules,
-        noted: noted_in(matches),
         coloured: false,
     };
     match question_in(alloc, name, matches)? {

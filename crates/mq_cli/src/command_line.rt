@@ -17,7 +17,8 @@ const ABOUT: &str = "Answers a script of MQTT 5.0 routing commands, line by line
 
 const ACL_FILE_HELP: &str = "Begin with this access list, in mosquitto's form";
 
-const RULES_HELP: &str = "By whose rules access lists decide: own or mosquitto (own)";
+const RULES_HELP: &str =
+    "By whose rules access lists decide: own, or mosquitto, which an operator gives (own)";
 
 const MAX_RETAINED_HELP: &str = "Let up to N messages be retained (no limit)";
 

@@ -13,12 +13,12 @@ use Rattle.mq_acl_args.specs.Files.{input_count, is_input}
 use Rattle.mqroute_acl.specs.Files.{IsTextOf}
 use Rattle.mqroute_acl.specs.Lint.{AreLinted, IsLintedFile, IsLintedText, SaysWhetherAllTaken}
 use Rattle.mqroute_acl.specs.Lint.{first_refused}
-use Rattle.mq_acl_answers.specs.Answers.{IsTaken}
-use Rattle.mq_acl_answers.specs.Lint.{IsRefused, SaysWhetherTaken}
-use Rattle.mq_acl_answers.specs.declared.commands.lint.Linted.{Linted}
-use Rattle.mq_acl_answers.specs.Statuses.{worse}
-use Rattle.mq_acl_answers.specs.declared.outcome.Outcome.{Outcome}
-use Rattle.mq_acl_answers.specs.declared.outcome.Outcome.TheVariants.{Clear, Remark}
+use Rattle.mq_ask.specs.Lists.{IsTaken}
+use Rattle.mq_ask_lint.specs.Lint.{IsRefused, SaysWhetherTaken}
+use Rattle.mq_ask_lint.specs.declared.lint.Linted.{Linted}
+use Rattle.mq_ask.specs.Statuses.{worse}
+use Rattle.mq_ask.specs.declared.outcome.Outcome.{Outcome}
+use Rattle.mq_ask.specs.declared.outcome.Outcome.TheVariants.{Clear, Remark}
 
 -- 1 for a file that is standard input
 abbrev one_if : Bool → ℕ

@@ -1,21 +1,20 @@
 -- The texts of lists, of those that the command line gives and of those that expectations name.
 use Rattle.std.proofs.Common.{◌≡◌, ◌≢◌, ◌∙◌, ◌<◌, ◌≤◌, ◌++◌, ◌∷◌, ℕ, List, [], Option, IfSome, All, true, false}
-use Rattle.std.proofs.Common.{Bool, ap, bytes_eq, get_or, length, string_bytes, subst, sym, take}
+use Rattle.std.proofs.Common.{ap, bytes_eq, get_or, length, string_bytes, subst, sym, take}
 use Rattle.std.specs.Borrow.{Bor}
 use Rattle.std.specs.List.{list_any}
 use Rattle.std.proofs.lemmas.List.Elements.{All-push, All-weaker}
 use Rattle.mq_acl.specs.declared.rules.Rules.{Rules}
-use Rattle.mq_acl.specs.declared.rules.Rules.TheVariants.{Own}
 use Rattle.mq_expect.specs.Files.{expectations_of, numbered_views}
 use Rattle.mq_expect.specs.declared.expectation.Numbered.{Numbered}
-use Rattle.mq_acl_answers.specs.Notes.{IsQuiet}
-use Rattle.mq_acl_answers.specs.declared.outcome.Outcome.{Outcome}
+use Rattle.mq_ask.specs.declared.outcome.Outcome.{Outcome}
 use Rattle.mq_acl_args.specs.Files.{input_count, is_input}
 use Rattle.mqroute_acl.specs.Files.{IsTextOf}
-use Rattle.mq_acl_test.proofs.FileLemmas.{any_texts}
-use Rattle.mq_acl_test.specs.Questions.{questions}
-use Rattle.mq_acl_test.specs.declared.list.ReadList.{ReadList}
-use Rattle.mqroute_acl.specs.Test.{AreNamed, AreRead, IsGiven, IsNamed, IsTested, ShowsTested}
+use Rattle.mq_ask_test.proofs.FileLemmas.{any_texts}
+use Rattle.mq_ask_test.specs.Questions.{questions}
+use Rattle.mq_ask_test.specs.declared.list.ReadList.{ReadList}
+use Rattle.mqroute_acl.specs.Test.{AreNamed, AreRead, IsGiven, IsNamed, IsTested}
+use Rattle.mq_ask_test.specs.Tested.{ShowsTested}
 use Rattle.mqroute_acl.specs.declared.test.ListFile.{ListFile}
 use Rattle.mqroute_acl.proofs.FilesLemmas.{first_is_none, next_input, some_input, texts}
 
@@ -45,19 +44,17 @@ named_more input given lists l none all =
     absurd (let bad : false ≡ true = sym none ∙ sym (any_texts l.file.now given) ∙ among in cc))
 
 -- of lists that were read so, what is said of the lines
-pub tested_of : (rules : Rules) (noted : Bool) (known : Option (List ℕ)) (text : List ℕ)
-    (given : List (List ℕ)) (first named texts : List ListFile) (read beside lists : List ReadList)
-    (said lines : List Numbered) (outcome : Outcome) {quiet : Type 0}
+pub tested_of : (rules : Rules) (known : Option (List ℕ)) (text : List ℕ)
+    (given : List (List ℕ)) (first named texts : List ListFile) (read lists : List ReadList)
+    (said lines : List Numbered) (outcome : Outcome)
     → All (IsGiven known) first → (AreNamed known given first → AreNamed known given named)
     → texts ≡ named → (AreNamed known given texts → AreRead rules known given read)
-    → beside ≡ read
-    → (rules ≡ Own → All (λ r. IsQuiet noted r.list.text.now) beside → quiet)
     → lists ≡ read → lines ≡ said → numbered_views said ≡ expectations_of text
     → ShowsTested rules lists (questions given (numbered_views lines)) outcome
     → questions given (numbered_views lines) ≢ []
-    → IsTested rules noted known text given outcome quiet
-tested_of rules noted known text given first named texts read beside lists said lines outcome
-    are_given more same reads same_beside silent same_lists same_lines entries shown some = record {
+    → IsTested rules known text given outcome
+tested_of rules known text given first named texts read lists said lines outcome are_given more
+    same reads same_lists same_lines entries shown some = record {
       lists = read;
       read = reads (subst (AreNamed known given) (sym same) (more (All-weaker (IsGiven known)
           (IsNamed known given) (λ l is among. is) first are_given)));
@@ -66,26 +63,24 @@ tested_of rules noted known text given first named texts read beside lists said 
           (questions given (expectations_of text)) outcome) same_lists
           (subst (λ all. ShowsTested rules lists (questions given all) outcome)
           (ap numbered_views same_lines ∙ entries) shown);
-      silent = λ own plain. silent own (subst (All (λ (r : ReadList). IsQuiet noted r.list.text.now))
-          (sym same_beside) plain);
     }
 
 -- the text of the expectations was read before those of the lists
-pub answer_of : (rules : Rules) (noted : Bool) (known after : Option (List ℕ)) (expected : List ℕ)
-    (given names : List (List ℕ)) (text read : List ℕ) (outcome shown : Outcome) {quiet : Type 0}
+pub answer_of : (rules : Rules) (known after : Option (List ℕ)) (expected : List ℕ)
+    (given names : List (List ℕ)) (text read : List ℕ) (outcome shown : Outcome)
     → input_count (expected ∷ given) ≤ 1 → (is_input expected ≡ false → after ≡ known)
     → names ≡ given → read ≡ text → IsTextOf known expected text
     → ((k : Option (List ℕ)) → (1 ≤ input_count names → k ≡ after)
-    → IsTested rules noted k read names shown quiet)
+    → IsTested rules k read names shown)
     → outcome ≡ shown
-    → (t : List ℕ) × IsTextOf known expected t × IsTested rules noted known t given outcome quiet
-answer_of rules noted known after expected given names text read outcome shown {quiet} once kept
-    same_names same_text is tests same = (
+    → (t : List ℕ) × IsTextOf known expected t × IsTested rules known t given outcome
+answer_of rules known after expected given names text read outcome shown once kept same_names
+    same_text is tests same = (
       text,
       is,
-      subst (λ (o : Outcome). IsTested rules noted known text given o quiet) (sym same)
-          (subst (λ (t : List ℕ). IsTested rules noted known t given shown quiet) same_text
-          (subst (λ (files : List (List ℕ)). IsTested rules noted known read files shown quiet) same_names
+      subst (λ (o : Outcome). IsTested rules known text given o) (sym same)
+          (subst (λ (t : List ℕ). IsTested rules known t given shown) same_text
+          (subst (λ (files : List (List ℕ)). IsTested rules known read files shown) same_names
           (tests known (λ some. sym (kept (first_is_none expected given once
           (subst (λ (files : List (List ℕ)). 1 ≤ input_count files) same_names some))))))),
     )

@@ -2,5 +2,4 @@ pub mod Files
 pub mod ListFile
 pub mod Lint
 pub mod Test
-pub mod Plan
 pub mod Program

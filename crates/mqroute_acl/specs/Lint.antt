@@ -2,11 +2,11 @@
 use Rattle.std.specs.Prelude.{ℕ, Bool, true, false, List, Option, Some, None, All, Any}
 use denote.Ref.{Bor}
 use Rattle.mq_acl.specs.declared.rules.Rules.{Rules}
-use Rattle.mq_acl_answers.specs.Answers.{IsTaken}
-use Rattle.mq_acl_answers.specs.Lint.{IsLinted, IsRefused, SaysWhetherTaken}
-use Rattle.mq_acl_answers.specs.declared.commands.lint.Linted.{Linted}
-use Rattle.mq_acl_answers.specs.declared.outcome.Outcome.{Outcome}
-use Rattle.mq_acl_answers.specs.declared.outcome.Outcome.TheVariants.{Clear, Remark as Shown}
+use Rattle.mq_ask.specs.Lists.{IsTaken}
+use Rattle.mq_ask_lint.specs.Lint.{IsLinted, IsRefused, SaysWhetherTaken}
+use Rattle.mq_ask_lint.specs.declared.lint.Linted.{Linted}
+use Rattle.mq_ask.specs.declared.outcome.Outcome.{Outcome}
+use Rattle.mq_ask.specs.declared.outcome.Outcome.TheVariants.{Clear, Remark as Shown}
 use Rattle.mqroute_acl.specs.Files.{IsTextOf}
 
 -- whether something is odd, faulty or needless in the text of a file is shown

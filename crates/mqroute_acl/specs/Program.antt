@@ -1,66 +1,55 @@
 -- What the program does.
-use Rattle.std.specs.Prelude.{◌≡◌, ◌⊎◌, ℕ, Bool, false, List, Option, Some, None, string_bytes}
+use Rattle.std.specs.Prelude.{◌≡◌, ◌⊎◌, ℕ, List, Option, Some, None, string_bytes}
 use Rattle.std.specs.Io.KnownBytes.{Appends}
 use Rattle.mq_acl.specs.declared.rules.Rules.{Rules}
-use Rattle.mq_acl.specs.declared.rules.Rules.TheVariants.{Own}
 use Rattle.mq_args.specs.declared.usage.UsageFault.{UsageFault}
 use Rattle.mq_args.specs.declared.usage.UsageFault.TheVariants.{Help, Usage, Memory}
 use Rattle.mq_acl_args.specs.CommandLine.{Asked, Compare, Why, Lint, Reach, ReachAny, ReachAll}
 use Rattle.mq_acl_args.specs.CommandLine.{Through, Who, Test}
 use Rattle.mq_acl_args.specs.CommandLine.{ReadsInputOnce}
-use Rattle.mq_acl_answers.specs.Answers.{IsCompared, IsExplained, IsReached}
-use Rattle.mq_acl_answers.specs.Notes.{IsQuiet}
-use Rattle.mq_acl_answers.specs.ReachAny.{IsReachedByAny}
-use Rattle.mq_acl_answers.specs.Script.{AreShown}
-use Rattle.mq_acl_answers.specs.Statuses.{outcome_status}
-use Rattle.mq_acl_answers.specs.Who.{IsWho}
-use Rattle.mq_acl_answers.specs.declared.outcome.Outcome.{Outcome}
+use Rattle.mq_ask_compare.specs.Compare.{IsCompared}
+use Rattle.mq_ask_why.specs.Why.{IsExplained}
+use Rattle.mq_ask_reach.specs.Reach.{IsReached}
+use Rattle.mq_ask_who.specs.ReachAny.{IsReachedByAny}
+use Rattle.mq_ask_reach.specs.Script.{AreShown}
+use Rattle.mq_ask.specs.Statuses.{outcome_status}
+use Rattle.mq_ask_who.specs.Who.{IsWho}
+use Rattle.mq_ask.specs.declared.outcome.Outcome.{Outcome}
 use Rattle.mqroute_acl.specs.Files.{IsTextOf}
 use Rattle.mqroute_acl.specs.Lint.{AreLinted, AreTaken, SomeIsRefused}
-use Rattle.mqroute_acl.specs.Plan.{IsComparedThrough}
+use Rattle.mq_ask_plan.specs.Plan.{IsComparedThrough}
 use Rattle.mqroute_acl.specs.Test.{IsTested}
 
--- the outcome is right for texts that the files may have, where the input holds this; and by our own rules `quiet` holds, but
--- where it is noted what mosquitto decides otherwise for `lint` and for a list that isn't plain
-abbrev pub IsAnswer : Rules → (noted : Bool) → (input : Option (List ℕ)) → Asked → Outcome
-    → (quiet : Type 0) → Type 0
-IsAnswer rules noted input (Compare old new only script) outcome quiet = (old_text new_text : List ℕ)
+-- the outcome is right for texts that the files may have, where the input holds this
+abbrev pub IsAnswer : Rules → (input : Option (List ℕ)) → Asked → Outcome → Type 0
+IsAnswer rules input (Compare old new only script) outcome = (old_text new_text : List ℕ)
     × IsTextOf input old old_text × IsTextOf input new new_text
     × IsCompared rules only old_text new_text outcome
-    × (rules ≡ Own → IsQuiet noted old_text → IsQuiet noted new_text → quiet)
-IsAnswer rules noted input (Through old new plan only) outcome quiet =
+IsAnswer rules input (Through old new plan only) outcome =
     (old_text new_text plan_text : List ℕ) × IsTextOf input old old_text
     × IsTextOf input new new_text × IsTextOf input plan plan_text
     × IsComparedThrough rules only old_text new_text plan_text outcome
-    × (IsQuiet noted old_text → IsQuiet noted new_text → quiet)
-IsAnswer rules noted input (Why file client topic may) outcome quiet = (text : List ℕ)
+IsAnswer rules input (Why file client topic may) outcome = (text : List ℕ)
     × IsTextOf input file text
     × IsExplained rules may text client.id client.user topic outcome
-    × (rules ≡ Own → IsQuiet noted text → quiet)
-IsAnswer rules noted input (Lint files) outcome quiet = AreLinted rules input files outcome
+IsAnswer rules input (Lint files) outcome = AreLinted rules input files outcome
     × AreTaken input files
-    × (rules ≡ Own → noted ≡ false → quiet)
-IsAnswer rules noted input (Reach file client filter) outcome quiet = (text : List ℕ)
+IsAnswer rules input (Reach file client filter) outcome = (text : List ℕ)
     × IsTextOf input file text × IsReached rules text client.id client.user filter outcome
-    × (rules ≡ Own → IsQuiet noted text → quiet)
-IsAnswer rules noted input (ReachAny file user wanted) outcome quiet = (text : List ℕ)
+IsAnswer rules input (ReachAny file user wanted) outcome = (text : List ℕ)
     × IsTextOf input file text × IsReachedByAny rules text user wanted outcome
-    × (rules ≡ Own → IsQuiet noted text → quiet)
-IsAnswer rules noted input (ReachAll file script) outcome quiet = (text lines : List ℕ)
+IsAnswer rules input (ReachAll file script) outcome = (text lines : List ℕ)
     × IsTextOf input file text × IsTextOf input script lines × AreShown rules text lines outcome
-    × (rules ≡ Own → IsQuiet noted text → quiet)
-IsAnswer rules noted input (Who file wanted access only script) outcome quiet = (text : List ℕ)
+IsAnswer rules input (Who file wanted access only script) outcome = (text : List ℕ)
     × IsTextOf input file text × IsWho rules text wanted access only outcome
-    × (rules ≡ Own → IsQuiet noted text → quiet)
-IsAnswer rules noted input (Test expected lists junit) outcome quiet = (text : List ℕ)
-    × IsTextOf input expected text × IsTested rules noted input text lists outcome quiet
+IsAnswer rules input (Test expected lists junit) outcome = (text : List ℕ)
+    × IsTextOf input expected text × IsTested rules input text lists outcome
 
 -- what is asked can be asked, and is answered with this status
-abbrev pub IsAnswered : Rules → (noted : Bool) → (input : Option (List ℕ)) → Option Asked → ℕ
-    → (quiet : Type 0) → Type 0
-IsAnswered rules noted input asked status quiet =
+abbrev pub IsAnswered : Rules → (input : Option (List ℕ)) → Option Asked → ℕ → Type 0
+IsAnswered rules input asked status =
     (question : Asked) × (outcome : Outcome) × (asked ≡ Some question) × ReadsInputOnce question
-    × IsAnswer rules noted input question outcome quiet × (status ≡ outcome_status outcome)
+    × IsAnswer rules input question outcome × (status ≡ outcome_status outcome)
 
 -- nothing was written; or it is asked of the lines of lists of which mosquitto doesn't take one
 abbrev pub IsUnread : (input : Option (List ℕ)) → Asked → (same : Type 0) → Type 0

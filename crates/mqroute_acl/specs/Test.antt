@@ -3,15 +3,12 @@ use Rattle.std.specs.Prelude.{◌≡◌, ◌≢◌, [], ℕ, Bool, true, List, O
 use Rattle.std.specs.List.{list_any}
 use Rattle.std.specs.Str.{bytes_eq}
 use Rattle.mq_acl.specs.declared.rules.Rules.{Rules}
-use Rattle.mq_acl.specs.declared.rules.Rules.TheVariants.{Own}
 use Rattle.mq_expect.specs.Files.{expectations_of}
-use Rattle.mq_acl_test.specs.Findings.{AllHold, SomeFails}
-use Rattle.mq_acl_test.specs.Questions.{Question, questions}
-use Rattle.mq_acl_test.specs.declared.list.ReadList.{ReadList}
-use Rattle.mq_acl_answers.specs.Answers.{AreRows}
-use Rattle.mq_acl_answers.specs.Notes.{IsQuiet}
-use Rattle.mq_acl_answers.specs.declared.outcome.Outcome.{Outcome}
-use Rattle.mq_acl_answers.specs.declared.outcome.Outcome.TheVariants.{Clear, Remark}
+use Rattle.mq_ask_test.specs.Questions.{questions}
+use Rattle.mq_ask_test.specs.Tested.{ShowsTested}
+use Rattle.mq_ask_test.specs.declared.list.ReadList.{ReadList}
+use Rattle.mq_ask.specs.Lists.{AreRows}
+use Rattle.mq_ask.specs.declared.outcome.Outcome.{Outcome}
 use Rattle.mqroute_acl.specs.Files.{IsTextOf}
 use Rattle.mqroute_acl.specs.declared.test.ListFile.{ListFile}
 
@@ -31,20 +28,14 @@ pub record IsRead (rules : Rules) (input : Option (List ℕ)) (given : List (Lis
   pub text : IsListText input given r.list.file.now r.list.text.now
   pub rows : AreRows rules r.list.text.now r.rows.items
 
--- each line that asks something holds; or one doesn't
-abbrev pub ShowsTested : Rules → List ReadList → List Question → Outcome → Type 0
-ShowsTested rules lists all Clear = AllHold rules lists all
-ShowsTested rules lists all Remark = SomeFails rules lists all
-
--- so it is of the expectations with this text, which has some, of the lists that are given or else of those that it names; and by our own
--- rules `quiet` holds, but where it is noted what mosquitto decides otherwise for a list that isn't plain
-pub record IsTested (rules : Rules) (noted : Bool) (input : Option (List ℕ)) (text : List ℕ)
-    (given : List (List ℕ)) (outcome : Outcome) (quiet : Type 0) : Type 0 where
+-- so it is of the expectations with this text, which has some, of the lists that are given or else of
+-- those that it names
+pub record IsTested (rules : Rules) (input : Option (List ℕ)) (text : List ℕ)
+    (given : List (List ℕ)) (outcome : Outcome) : Type 0 where
   pub lists : List ReadList
   pub read : All (IsRead rules input given) lists
   pub some : questions given (expectations_of text) ≢ []
   pub shown : ShowsTested rules lists (questions given (expectations_of text)) outcome
-  pub silent : rules ≡ Own → All (λ r. IsQuiet noted r.list.text.now) lists → quiet
 
 -- ---- before the lists are read
 -- the text that was read of a file is one that it may have

@@ -5,8 +5,9 @@ ghost use Rattle.std.specs.Option.{option_copied};
 ghost use Rattle.mqroute_acl.specs.Files.{IsTextOf};
 
 use crate::list_file::{FileFault, read_text};
-use mq_acl_answers::{Failure, find_traffic};
+use crate::traffic::find_traffic;
 use mq_acl_args::is_input;
+use mq_ask::Failure;
 use mq_traffic::Traffic;
 use std::alloc::Global;
 use std::fs;

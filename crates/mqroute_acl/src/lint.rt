@@ -1,15 +1,15 @@
 //! The answer to `lint`, of files.
 ghost use Rattle.std.specs.Prelude.{◌≡◌, ◌≤◌, ◌⊎◌, IfOk, IfErr, OnOk, false, map};
 ghost use Rattle.mq_acl.specs.declared.rules.Rules.TheVariants.{Own};
-ghost use Rattle.mq_acl_answers.specs.Statuses.{failure_status};
+ghost use Rattle.mq_ask.specs.Statuses.{failure_status};
 ghost use Rattle.mq_acl_args.specs.Files.{input_count, is_input};
 ghost use Rattle.mqroute_acl.specs.Lint.{AreLinted, AreTaken, IsLintedFile, SaysWhetherAllTaken};
 ghost use Rattle.mqroute_acl.specs.Lint.{SomeIsRefused, first_refused};
 
 use crate::files::text_of;
-use mq_acl_answers::{Failure, Linted, Outcome, add_lint, print_outcome};
-use mq_acl_args::Options;
-use mq_acl_print::ListText;
+use mq_ask::{Failure, Options, Outcome, print_outcome};
+use mq_ask_lint::{Linted, add_lint};
+use mq_print::ListText;
 use std::alloc::Global;
 use std::io::{Read, Write};
 use std::rt::Files;
@@ -34,8 +34,7 @@ fn lint_file<'a, R: Files, I: Read>(
 ) -> Result<Linted, Failure<'a>>
     ensures ok { IfOk result (IsLintedFile options.rules (I.remaining input.old) file.entry.now) }
     ensures kept { is_input file.entry.now ≡ false → input.new ≡ input.old }
-    ensures quiet { OnOk result (options.rules ≡ Own → options.noted ≡ false
-        → notes.new ≡ notes.old) }
+    ensures quiet { OnOk result (options.rules ≡ Own → notes.new ≡ notes.old) }
 {
     let text = text_of(rt, alloc, file, input)?;
     let list = ListText {
@@ -72,8 +71,7 @@ fn lint_files<'a, R: Files, I: Read>(
     ensures taken { IfOk result (λ linted. SaysWhetherAllTaken (I.remaining input.old)
         (map (λ file. file.now) files.now) linted.refused) }
     ensures kept { input_count (map (λ file. file.now) files.now) ≡ 0 → input.new ≡ input.old }
-    ensures quiet { OnOk result (options.rules ≡ Own → options.noted ≡ false
-        → notes.new ≡ notes.old) }
+    ensures quiet { OnOk result (options.rules ≡ Own → notes.new ≡ notes.old) }
 {
     let mut outcome = Outcome::Clear;
     let mut refused = None;
@@ -99,8 +97,8 @@ pub(crate) fn answer_lint<'a, R: Files, I: Read, W: Write>(
     requires { input_count (map (λ file. file.now) files.now) ≤ 1 }
     ensures ok { IfOk result (λ outcome. AreLinted options.rules (I.remaining input.old)
         (map (λ file. file.now) files.now) outcome
-        × AreTaken (I.remaining input.old) (map (λ file. file.now) files.now)
-        × (options.rules ≡ Own → options.noted ≡ false → notes.new ≡ notes.old)) }
+        × AreTaken (I.remaining input.old) (map (λ file. file.now) files.now)) }
+    ensures quiet { OnOk result (options.rules ≡ Own → notes.new ≡ notes.old) }
     ensures unread { IfErr result (λ failure. failure_status failure ≡ 2
         → (out.new ≡ out.old)
         ⊎ SomeIsRefused (I.remaining input.old) (map (λ file. file.now) files.now)) }

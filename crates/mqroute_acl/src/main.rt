@@ -9,9 +9,10 @@ mod program;
 mod reach;
 mod report;
 mod test;
+mod traffic;
 
 use crate::program::start;
-use mq_acl_answers::{FAILED, UNREADABLE};
+use mq_ask::{FAILED, UNREADABLE};
 use std::env::{self, VarError};
 use std::io::{self, ErrorKind, IsTerminal, Write};
 use std::process::ExitCode;

@@ -1,210 +1,18 @@
-//! The answer to `compare --plan`: what changes between two lists through a plan.
-ghost use Rattle.std.specs.Prelude.{◌≡◌, ◌≤◌, ◌∷◌, ℕ, List, [], IfOk, IfErr, OnOk, false, true};
-ghost use Rattle.mq_acl.specs.declared.rules.Rules.TheVariants.{Own};
-ghost use Rattle.mq_acl_answers.specs.Notes.{IsQuiet};
-ghost use Rattle.mq_acl_answers.specs.Statuses.{failure_status};
+//! The answer to `compare --plan`, of files.
+ghost use Rattle.std.specs.Prelude.{◌≡◌, ◌≤◌, ◌∷◌, ℕ, List, [], IfOk, IfErr};
 ghost use Rattle.mq_acl_args.specs.Files.{input_count};
-ghost use Rattle.mq_acl_plan.specs.Renamed.{AreRenamed};
+ghost use Rattle.mq_ask.specs.Statuses.{failure_status};
+ghost use Rattle.mq_ask_plan.specs.Plan.{IsComparedThrough};
 ghost use Rattle.mqroute_acl.specs.Files.{IsTextOf};
-ghost use Rattle.mqroute_acl.specs.Plan.{IsComparedThrough, has_way};
 
 use crate::files::text_of;
-use mq_acl::Rules;
-use mq_acl_answers::{
-    Failure, Outcome, add_otherwise_of_two, check_taken, is_way, list_failure, print_outcome,
-};
-use mq_acl_args::{Options, Through};
-use mq_acl_plan::{
-    PlanAnswerFault, PlanScope, RenamedChanges, find_renamed, plan_fault_words, renamed_text,
-};
-use mq_acl_print::ListText;
-use mq_differences::Way;
-use mq_plan::{PlanFault, PlanKind};
-use mq_through::{Renamed, ThroughFault};
-use std::alloc::{AllocError, Global};
+use mq_acl_args::Through;
+use mq_ask::{Failure, Options, Outcome};
+use mq_ask_plan::{PlanTexts, show_through};
+use mq_print::ListText;
+use std::alloc::Global;
 use std::io::{Read, Write};
 use std::rt::Files;
-
-// Two lists and a plan, as they stand in files.
-#[derive(Clone, Copy, Drop)]
-struct Texts<'a, 't> {
-    old: ListText<'a, 't>,
-    new: ListText<'a, 't>,
-    plan: ListText<'a, 't>,
-}
-
-fn line_failure<'a>(
-    alloc: Global,
-    file: &'a str,
-    line: u64,
-    words: &str,
-) -> Result<Failure<'a>, AllocError> {
-    let words = String::from_str(alloc, words)?;
-    Ok(Failure::Line { file, line, words })
-}
-
-fn plan_failure<'a>(
-    alloc: Global,
-    plan: ListText<'a, '_>,
-    fault: PlanFault,
-) -> Result<Failure<'a>, AllocError> {
-    if fault.kind == PlanKind::Memory {
-        return Ok(Failure::Memory);
-    }
-    let words = plan_fault_words(alloc, plan.whole_line(fault.line), fault.kind)?;
-    Ok(Failure::Line {
-        file: plan.file,
-        line: fault.line,
-        words,
-    })
-}
-
-const MARK: &str = "a topic line with a level %c or %u can't be compared through a plan";
-
-const RULE: &str = "a level of more than 300 bytes, or a level %c or %u";
-
-const LONG_NAME: &str =
-    "a topic would get a new name of more than 200 levels or 65,535 bytes, or an empty one";
-
-fn through_failure<'a>(
-    alloc: Global,
-    texts: Texts<'a, '_>,
-    fault: ThroughFault,
-) -> Result<Failure<'a>, AllocError> {
-    let Texts { old, new, plan } = texts;
-    match fault {
-        ThroughFault::Memory => Ok(Failure::Memory),
-        ThroughFault::OldLine(line) => Ok(Failure::Long {
-            file: old.file,
-            line,
-        }),
-        ThroughFault::NewLine(line) => Ok(Failure::Long {
-            file: new.file,
-            line,
-        }),
-        ThroughFault::OldMark(line) => line_failure(alloc, old.file, line, MARK),
-        ThroughFault::NewMark(line) => line_failure(alloc, new.file, line, MARK),
-        ThroughFault::Rule(line) => line_failure(alloc, plan.file, line, RULE),
-        ThroughFault::LongName(line) => line_failure(alloc, plan.file, line, LONG_NAME),
-        ThroughFault::NoClient => Ok(Failure::NoClient),
-        ThroughFault::GaveUp => Ok(Failure::PlanGaveUp(plan.file)),
-    }
-}
-
-fn failure_of<'a>(
-    alloc: Global,
-    texts: Texts<'a, '_>,
-    fault: PlanAnswerFault,
-) -> Result<Failure<'a>, AllocError> {
-    match fault {
-        PlanAnswerFault::Old(fault) => Ok(list_failure(alloc, Rules::Own, texts.old, fault)),
-        PlanAnswerFault::New(fault) => Ok(list_failure(alloc, Rules::Own, texts.new, fault)),
-        PlanAnswerFault::Plan(fault) => plan_failure(alloc, texts.plan, fault),
-        PlanAnswerFault::Through(fault) => through_failure(alloc, texts, fault),
-    }
-}
-
-fn find<'a>(alloc: Global, texts: Texts<'a, '_>, steps: u64) -> Result<RenamedChanges, Failure<'a>>
-    ensures { IfOk result (AreRenamed texts.entry.old.text.now texts.entry.new.text.now
-        texts.entry.plan.text.now) }
-{
-    let Texts { old, new, plan } = texts;
-    match find_renamed(alloc, old.text, new.text, plan.text, steps) {
-        Ok(changes) => Ok(changes),
-        Err(fault) => Err(failure_of(alloc, texts, fault)?),
-    }
-}
-
-fn has_change(renamed: &[Renamed], only: Option<Way>) -> bool
-    ensures { result ≡ has_way only renamed.now }
-{
-    renamed.iter().any(|one| is_way(only, one.difference.way))
-}
-
-// Whether there are changes that are asked about.
-fn outcome_of(renamed: &[Renamed], only: Option<Way>) -> Outcome
-    ensures clear { result ≡ Outcome.Clear → has_way only renamed.now ≡ false }
-    ensures remark { result ≡ Outcome.Remark → has_way only renamed.now ≡ true }
-{
-    if has_change(renamed, only) {
-        return Outcome::Remark;
-    }
-    Outcome::Clear
-}
-
-// Those that are asked about.
-fn asked(
-    alloc: Global,
-    renamed: Vec<Renamed>,
-    only: Option<Way>,
-) -> Result<Vec<Renamed>, AllocError> {
-    renamed
-        .into_iter()
-        .filter(|one| is_way(only, one.difference.way))
-        .collect(alloc)
-}
-
-fn answer_text(
-    alloc: Global,
-    texts: Texts<'_, '_>,
-    only: Option<Way>,
-    options: Options,
-    renamed: Vec<Renamed>,
-) -> Result<String, AllocError> {
-    let scope = PlanScope {
-        only,
-        json: options.json,
-        coloured: options.coloured,
-    };
-    let renamed = asked(alloc, renamed, only)?;
-    renamed_text(alloc, scope, (texts.old, texts.new), texts.plan, renamed)
-}
-
-// By our own rules, of lists that mosquitto takes.
-fn compare_texts<'a, W: Write>(
-    alloc: Global,
-    texts: Texts<'a, '_>,
-    only: Option<Way>,
-    options: Options,
-    out: &mut W,
-    notes: &mut String,
-) -> Result<Outcome, Failure<'a>>
-    requires { options.rules ≡ Own }
-    ensures ok { IfOk result (IsComparedThrough options.rules only texts.entry.old.text.now
-        texts.entry.new.text.now texts.entry.plan.text.now) }
-    ensures unread { IfErr result (λ failure. failure_status failure ≡ 2 → out.new ≡ out.old) }
-    ensures quiet { OnOk result (IsQuiet options.noted texts.entry.old.text.now
-        → IsQuiet options.noted texts.entry.new.text.now → notes.new ≡ notes.old) }
-{
-    check_taken(alloc, texts.old)?;
-    check_taken(alloc, texts.new)?;
-    let changes = find(alloc, texts, options.steps)?;
-    let outcome = outcome_of(&changes.renamed, only);
-    let text = answer_text(alloc, texts, only, options, changes.into_renamed());
-    // behind it, when the changes are gone
-    add_otherwise_of_two(alloc, notes, texts.old, texts.new, options)?;
-    print_outcome(out, text, outcome)
-}
-
-fn answer_texts<'a, W: Write>(
-    alloc: Global,
-    texts: Texts<'a, '_>,
-    only: Option<Way>,
-    options: Options,
-    out: &mut W,
-    notes: &mut String,
-) -> Result<Outcome, Failure<'a>>
-    ensures ok { IfOk result (IsComparedThrough options.rules only texts.entry.old.text.now
-        texts.entry.new.text.now texts.entry.plan.text.now) }
-    ensures unread { IfErr result (λ failure. failure_status failure ≡ 2 → out.new ≡ out.old) }
-    ensures quiet { OnOk result (IsQuiet options.noted texts.entry.old.text.now
-        → IsQuiet options.noted texts.entry.new.text.now → notes.new ≡ notes.old) }
-{
-    match options.rules {
-        Rules::Own => compare_texts(alloc, texts, only, options, out, notes),
-        Rules::Mosquitto => Err(Failure::PlanRules),
-    }
-}
 
 /// Of two lists and a plan.
 pub(crate) fn answer_through<'a, R: Files, I: Read, W: Write>(
@@ -214,15 +22,13 @@ pub(crate) fn answer_through<'a, R: Files, I: Read, W: Write>(
     options: Options,
     input: &mut I,
     out: &mut W,
-    notes: &mut String,
 ) -> Result<Outcome, Failure<'a>>
     requires { input_count (asked.old.now ∷ asked.new.now ∷ asked.plan.now ∷ []) ≤ 1 }
     ensures ok { IfOk result (λ outcome. (old new plan : List ℕ)
         × IsTextOf (I.remaining input.old) asked.entry.old.now old
         × IsTextOf (I.remaining input.old) asked.entry.new.now new
         × IsTextOf (I.remaining input.old) asked.entry.plan.now plan
-        × IsComparedThrough options.rules asked.entry.only old new plan outcome
-        × (IsQuiet options.noted old → IsQuiet options.noted new → notes.new ≡ notes.old)) }
+        × IsComparedThrough options.rules asked.entry.only old new plan outcome) }
     ensures unread { IfErr result (λ failure. failure_status failure ≡ 2 → out.new ≡ out.old) }
     ensures kept { input_count (asked.entry.old.now ∷ asked.entry.new.now ∷ asked.entry.plan.now ∷ [])
         ≡ 0 → input.new ≡ input.old }
@@ -230,7 +36,7 @@ pub(crate) fn answer_through<'a, R: Files, I: Read, W: Write>(
     let old_text = text_of(rt, alloc, asked.old, input)?;
     let new_text = text_of(rt, alloc, asked.new, input)?;
     let plan_text = text_of(rt, alloc, asked.plan, input)?;
-    let texts = Texts {
+    let texts = PlanTexts {
         old: ListText {
             file: asked.old,
             text: old_text.as_str(),
@@ -244,5 +50,5 @@ pub(crate) fn answer_through<'a, R: Files, I: Read, W: Write>(
             text: plan_text.as_str(),
         },
     };
-    answer_texts(alloc, texts, asked.only, options, out, notes)
+    show_through(alloc, texts, asked.only, options, out)
 }

@@ -1,17 +1,17 @@
 //! All of the program but its `main`.
-ghost use Rattle.std.specs.Prelude.{◌≡◌, ◌≢◌, ◌≤◌, ◌⊎◌, ◌∷◌, ℕ, List, [], IfOk, IfErr, Some};
+ghost use Rattle.std.specs.Prelude.{◌≡◌, ◌≢◌, ◌≤◌, ◌⊎◌, ◌∷◌, ℕ, List, [], IfOk, IfErr, OnOk, Some};
 ghost use Rattle.std.specs.Prelude.{false, map, string_bytes, if◌then◌else◌, is_ok};
 ghost use Rattle.std.specs.Option.{option_copied};
 ghost use Rattle.mq_acl.specs.declared.rules.Rules.TheVariants.{Own};
 ghost use Rattle.mq_acl_args.specs.CommandLine.{Asked, IsFaultOf, ReadsInputOnce, asked_by};
 ghost use Rattle.mq_acl_args.specs.CommandLine.{fault_of, files_of, mqroute_acl, question_view};
-ghost use Rattle.mq_acl_args.specs.CommandLine.{noted_given, rules_given, subcommand_of};
+ghost use Rattle.mq_acl_args.specs.CommandLine.{rules_given, subcommand_of};
 ghost use Rattle.mq_acl_args.specs.CommandLine.{values_of};
 ghost use Rattle.mq_acl_args.specs.Files.{input_count, script_file};
-ghost use Rattle.mq_acl_answers.specs.Answers.{IsCompared, IsExplained};
-ghost use Rattle.mq_acl_answers.specs.Notes.{IsQuiet};
-ghost use Rattle.mq_acl_answers.specs.Statuses.{failure_status};
-ghost use Rattle.mq_acl_answers.specs.Who.{IsWho};
+ghost use Rattle.mq_ask_compare.specs.Compare.{IsCompared};
+ghost use Rattle.mq_ask_why.specs.Why.{IsExplained};
+ghost use Rattle.mq_ask.specs.Statuses.{failure_status};
+ghost use Rattle.mq_ask_who.specs.Who.{IsWho};
 ghost use Rattle.mqroute_acl.specs.Files.{IsTextOf};
 ghost use Rattle.mqroute_acl.specs.Program.{IsAnswer, IsAnswered, IsUnread, IsUnreadBy, PrintsUsage};
 
@@ -20,12 +20,14 @@ use crate::lint::answer_lint;
 use crate::plan::answer_through;
 use crate::reach::answer_reach;
 use crate::test::answer_test;
-use mq_acl_answers::{
-    FAILED, Failure, Outcome, UNREADABLE, print, show_changes, show_who, show_why,
-};
-use mq_acl_args::{Compare, Options, Question, Request, Who, Why, arguments};
-use mq_acl_print::{Escape, ListText, ScriptTraffic, shown_lines, shown_name};
+use mq_acl_args::{Compare, Question, Request, Who, Why, arguments};
 use mq_args::UsageFault;
+use mq_ask::{FAILED, Failure, Options, Outcome, UNREADABLE, print};
+use mq_ask_cases::ScriptTraffic;
+use mq_ask_compare::show_changes;
+use mq_ask_who::show_who;
+use mq_ask_why::show_why;
+use mq_print::{Escape, ListText, shown_lines, shown_name};
 use mq_traffic::Traffic;
 use std::alloc::{AllocError, Global};
 use std::io::{Read, Write};
@@ -57,9 +59,8 @@ fn answer_compare<'a, R: Files, I: Read, W: Write>(
     ensures ok { IfOk result (λ outcome. (old new : List ℕ)
         × IsTextOf (I.remaining input.old) asked.entry.old.now old
         × IsTextOf (I.remaining input.old) asked.entry.new.now new
-        × IsCompared options.rules asked.entry.only old new outcome
-        × (options.rules ≡ Own → IsQuiet options.noted old → IsQuiet options.noted new
-        → notes.new ≡ notes.old)) }
+        × IsCompared options.rules asked.entry.only old new outcome) }
+    ensures quiet { OnOk result (options.rules ≡ Own → notes.new ≡ notes.old) }
     ensures unread { IfErr result (λ failure. failure_status failure ≡ 2 → out.new ≡ out.old) }
     ensures kept { input_count (asked.entry.old.now ∷ asked.entry.new.now
         ∷ script_file (option_copied asked.entry.script)) ≡ 0 → input.new ≡ input.old }
@@ -87,13 +88,11 @@ fn answer_why<'a, R: Files, I: Read, W: Write>(
     options: Options,
     input: &mut I,
     out: &mut W,
-    notes: &mut String,
 ) -> Result<Outcome, Failure<'a>>
     ensures ok { IfOk result (λ outcome. (text : List ℕ)
         × IsTextOf (I.remaining input.old) asked.entry.file.now text
         × IsExplained options.rules asked.entry.may text asked.entry.client.id.now
-        (option_copied asked.entry.client.user) asked.entry.topic.now outcome
-        × (options.rules ≡ Own → IsQuiet options.noted text → notes.new ≡ notes.old)) }
+        (option_copied asked.entry.client.user) asked.entry.topic.now outcome) }
     ensures unread { IfErr result (λ failure. failure_status failure ≡ 2 → out.new ≡ out.old) }
     ensures kept { input_count (asked.entry.file.now ∷ []) ≡ 0 → input.new ≡ input.old }
 {
@@ -110,7 +109,6 @@ fn answer_why<'a, R: Files, I: Read, W: Write>(
         asked.may,
         options,
         out,
-        notes,
     )
 }
 
@@ -127,8 +125,8 @@ fn answer_who<'a, R: Files, I: Read, W: Write>(
     ensures ok { IfOk result (λ outcome. (text : List ℕ)
         × IsTextOf (I.remaining input.old) asked.entry.file.now text
         × IsWho options.rules text asked.entry.wanted.now asked.entry.selection.access
-        (option_copied asked.entry.selection.only) outcome
-        × (options.rules ≡ Own → IsQuiet options.noted text → notes.new ≡ notes.old)) }
+        (option_copied asked.entry.selection.only) outcome) }
+    ensures quiet { OnOk result (options.rules ≡ Own → notes.new ≡ notes.old) }
     ensures unread { IfErr result (λ failure. failure_status failure ≡ 2 → out.new ≡ out.old) }
     ensures kept { input_count (asked.entry.file.now ∷ script_file (option_copied asked.entry.script))
         ≡ 0 → input.new ≡ input.old }
@@ -164,8 +162,8 @@ fn answer<'a, R: Files, I: Read, W: Write>(
 ) -> Result<Outcome, Failure<'a>>
     requires { ReadsInputOnce (question_view request.question) }
     ensures ok { IfOk result (λ outcome. IsAnswer request.entry.options.rules
-        request.entry.options.noted (I.remaining input.old) (question_view request.entry.question) outcome
-        (notes.new ≡ notes.old)) }
+        (I.remaining input.old) (question_view request.entry.question) outcome) }
+    ensures quiet { OnOk result (request.entry.options.rules ≡ Own → notes.new ≡ notes.old) }
     ensures unread { IfErr result (λ failure. failure_status failure ≡ 2
         → IsUnread (I.remaining input.old) (question_view request.entry.question)
         (out.new ≡ out.old)) }
@@ -178,8 +176,8 @@ fn answer<'a, R: Files, I: Read, W: Write>(
     };
     match request.question {
         Question::Compare(asked) => answer_compare(rt, alloc, asked, options, input, out, notes),
-        Question::Through(asked) => answer_through(rt, alloc, asked, options, input, out, notes),
-        Question::Why(asked) => answer_why(rt, alloc, asked, options, input, out, notes),
+        Question::Through(asked) => answer_through(rt, alloc, asked, options, input, out),
+        Question::Why(asked) => answer_why(rt, alloc, asked, options, input, out),
         Question::Lint(files) => {
             answer_lint(rt, alloc, files.as_slice(), options, input, out, notes)
         }
@@ -274,15 +272,14 @@ pub(crate) fn start<R: Files, I: Read, W: Write, E: Write>(
 
     // Of words that are understood, a status of 0 or 1 says what is true of texts that the files
     // may have: of standard input, where its bytes are known, that is what it holds. They name it
-    // once at most. By our own rules nothing is then printed on standard error; where the words
-    // name no rules, but by `lint`, of a list with `pattern` lines, of one with a row that grants
-    // what mosquitto refuses by itself, or of one that mosquitto reads otherwise.
+    // once at most. By our own rules nothing is then printed on standard error.
     ensures answered { let given = map string_bytes words.now in fault_of mqroute_acl given ≡ []
         → result ≢ 2 → result ≢ 3
         → IsAnswered (rules_given (values_of (subcommand_of mqroute_acl given)))
-        (noted_given (values_of (subcommand_of mqroute_acl given)))
-        (I.remaining input.old) (asked_by (subcommand_of mqroute_acl given)) result
-        (err.new ≡ err.old) }
+        (I.remaining input.old) (asked_by (subcommand_of mqroute_acl given)) result }
+    ensures silent { let given = map string_bytes words.now in fault_of mqroute_acl given ≡ []
+        → rules_given (values_of (subcommand_of mqroute_acl given)) ≡ Own
+        → result ≢ 2 → result ≢ 3 → err.new ≡ err.old }
 
     // Of words that are not understood a fault that they have is printed, or that memory ran out.
     ensures usage { let given = map string_bytes words.now in fault_of mqroute_acl given ≢ []

@@ -1,8 +1,8 @@
 //! The file of a report: never one that is read, and whole or as it was.
 ghost use Rattle.std.specs.Prelude.{◌≡◌, IfErr};
-ghost use Rattle.mq_acl_answers.specs.Statuses.{failure_status};
+ghost use Rattle.mq_ask.specs.Statuses.{failure_status};
 
-use mq_acl_answers::Failure;
+use mq_ask::Failure;
 use std::alloc::{AllocError, Global};
 use std::fs::{self, File};
 use std::io::{self, ErrorKind, Write};
@@ -112,7 +112,7 @@ fn written_beside<'a, R: Files>(
 
 impl<'a> Report<'a> {
     ghost use Rattle.std.specs.Prelude.{◌≡◌, IfErr};
-    ghost use Rattle.mq_acl_answers.specs.Statuses.{failure_status};
+    ghost use Rattle.mq_ask.specs.Statuses.{failure_status};
 
     /// A report with this text, which is put beside the file until the answer is written.
     pub(crate) fn prepare<R: Files>(

@@ -1,32 +1,26 @@
 //! The answer to `test`: whether lists are as a file of expectations says.
-ghost use Rattle.std.specs.Prelude.{◌≡◌, ◌≢◌, ◌≤◌, ◌++◌, ◌∷◌, [], ℕ, List, Option, All, IfOk, IfErr, OnOk, map};
 ghost use Rattle.std.specs.List.{list_any};
+ghost use Rattle.std.specs.Prelude.{◌≡◌, ◌≤◌, ◌++◌, ◌∷◌, [], ℕ, List, Option, All, IfOk, IfErr};
+ghost use Rattle.std.specs.Prelude.{OnOk, map};
 ghost use Rattle.std.specs.Str.{bytes_eq};
 ghost use Rattle.mq_acl.specs.declared.rules.Rules.{Rules};
 ghost use Rattle.mq_acl.specs.declared.rules.Rules.TheVariants.{Own};
-ghost use Rattle.mq_acl_answers.specs.Notes.{IsQuiet};
-ghost use Rattle.mq_acl_answers.specs.Statuses.{failure_status};
 ghost use Rattle.mq_acl_args.specs.Files.{input_count};
-ghost use Rattle.mq_acl_test.specs.Findings.{IsVerdict};
-ghost use Rattle.mq_expect.specs.Files.{numbered_views};
-ghost use Rattle.mq_acl_test.specs.Questions.{asked_view, questions};
-ghost use Rattle.mq_acl_test.specs.declared.list.ReadList.{ReadList};
+ghost use Rattle.mq_ask.specs.Statuses.{failure_status};
+ghost use Rattle.mq_ask_test.specs.declared.list.ReadList.{ReadList};
 ghost use Rattle.mqroute_acl.specs.Files.{IsTextOf};
-ghost use Rattle.mqroute_acl.specs.Test.{AreNamed, AreRead, IsGiven, IsNamed, IsRead, IsTested, ShowsTested};
+ghost use Rattle.mqroute_acl.specs.Test.{AreNamed, AreRead, IsGiven, IsNamed, IsRead, IsTested};
 
 use crate::files::{opened_text, text_of};
 use crate::report::{Report, is_read_file};
 use mq_acl::Rules;
-use mq_acl_answers::{Failure, Outcome, add_otherwise, add_who_limit, list_failure, print_outcome};
-use mq_acl_args::{Options, Test};
-use mq_acl_print::ListText;
-use mq_acl_test::{
-    ReadList, TestFault, Verdict, all_hold, judge_all, junit_text, read_list, verdicts_text,
-    wanted_files,
-};
-use mq_expect::{Numbered, read_expectations};
+use mq_acl_args::Test;
+use mq_ask::{Failure, Options, Outcome, add_who_limit, list_failure, print_outcome};
+use mq_ask_test::{ReadList, Tested, read_list, test_lists, wanted_files};
+use mq_expect::read_expectations;
+use mq_print::ListText;
 use std::alloc::{AllocError, Global};
-use std::io::{self, ErrorKind, Read, Write};
+use std::io::{Read, Write};
 use std::rt::Files;
 
 /// The file of a list, and its text.
@@ -160,123 +154,6 @@ fn read_all<'t, 'l>(
     Ok(all)
 }
 
-// Notes by mosquitto's rules of whom it isn't known, and by our own where mosquitto decides
-// otherwise by one of the lists.
-fn add_notes<'t>(
-    alloc: Global,
-    notes: &mut String,
-    lists: &[ReadList<'t, '_>],
-    options: Options,
-) -> Result<(), Failure<'t>>
-    ensures { OnOk result (options.rules ≡ Own
-        → All (λ read. IsQuiet options.noted read.list.text.now) lists.now
-        → notes.new ≡ notes.old) }
-{
-    add_who_limit(notes, options.rules)?;
-    for read in lists {
-        add_otherwise(alloc, notes, read.list, options)?;
-    }
-    Ok(())
-}
-
-// Why nothing is said of the lines of this file.
-fn failure_of<'t>(expected: &'t str, fault: TestFault<'t>) -> Failure<'t> {
-    match fault {
-        TestFault::Memory => Failure::Memory,
-        // Each that is wanted was read.
-        TestFault::Missing(file) => { Failure::Read(file, io::Error::from(ErrorKind::NotFound)) }
-        TestFault::Long { file, line } => Failure::Long { file, line },
-        TestFault::Mark { file, line } => Failure::Mark { file, line },
-        TestFault::GaveUp {
-            expectation,
-            file,
-            row: 0,
-            others,
-        } => Failure::TestFilterGaveUp {
-            file: expected,
-            line: expectation,
-            list: file,
-            others,
-        },
-        TestFault::GaveUp {
-            expectation,
-            file,
-            row,
-            others,
-        } => Failure::TestGaveUp {
-            file: expected,
-            line: expectation,
-            list: file,
-            row,
-            others,
-        },
-    }
-}
-
-// Whether each of the lines holds.
-fn outcome_of(verdicts: &[Verdict<'_, '_>]) -> Outcome
-    ensures { (rules : Rules) (lists : List ReadList) → All (IsVerdict rules lists) verdicts.now
-        → ShowsTested rules lists (map (λ v. asked_view v.asked) verdicts.now) result }
-{
-    if all_hold(verdicts) {
-        return Outcome::Clear;
-    }
-    Outcome::Remark
-}
-
-// What is said of the lines, and what it comes to.
-#[derive(Drop)]
-struct Shown {
-    text: String,
-    // The same in JUnit's XML, if that is wanted.
-    junit: Option<String>,
-    outcome: Outcome,
-}
-
-fn junit_if(
-    alloc: Global,
-    junit: Option<&str>,
-    expected: ListText<'_, '_>,
-    lists: &[ReadList<'_, '_>],
-    verdicts: &[Verdict<'_, '_>],
-) -> Result<Option<String>, AllocError> {
-    if junit.is_none() {
-        return Ok(None);
-    }
-    let text = junit_text(alloc, expected, lists, verdicts)?;
-    Ok(Some(text))
-}
-
-fn judged<'t>(
-    alloc: Global,
-    expected: ListText<'t, 't>,
-    given: &[&'t str],
-    expectations: &[Numbered<'t>],
-    lists: &[ReadList<'t, '_>],
-    junit: Option<&str>,
-    options: Options,
-) -> Result<Shown, Failure<'t>>
-    ensures shown { IfOk result (λ shown. ShowsTested options.rules lists.now
-        (questions (map (λ file. file.now) given.now) (numbered_views expectations.now)) shown.outcome) }
-    ensures some { IfOk result (λ _.
-        questions (map (λ file. file.now) given.now) (numbered_views expectations.now) ≢ []) }
-{
-    let rules = options.rules;
-    let verdicts = match judge_all(alloc, rules, given, expectations, lists, options.steps) {
-        Ok(verdicts) => verdicts,
-        Err(fault) => return Err(failure_of(expected.file, fault)),
-    };
-    if verdicts.is_empty() {
-        return Err(Failure::NoExpectation(expected.file));
-    }
-    let outcome = outcome_of(&verdicts);
-    Ok(Shown {
-        text: verdicts_text(alloc, rules, expected, lists, &verdicts, options.json)?,
-        junit: junit_if(alloc, junit, expected, lists, &verdicts)?,
-        outcome,
-    })
-}
-
 // Refuses to write to a file that is read, by whatever name or link.
 fn keep_apart<'t, R: Files>(
     rt: &R,
@@ -307,12 +184,13 @@ fn tested<'t, R: Files, I: Read>(
     options: Options,
     input: &mut I,
     notes: &mut String,
-) -> Result<Shown, Failure<'t>>
+) -> Result<Tested, Failure<'t>>
     requires { input_count (map (λ file. file.now) given.now) ≤ 1 }
     ensures ok { IfOk result (λ shown. (known : Option (List ℕ))
         → (1 ≤ input_count (map (λ file. file.now) given.now) → known ≡ I.remaining input.old)
-        → IsTested options.rules options.noted known expected.entry.text.now
-        (map (λ file. file.now) given.now) shown.outcome (notes.new ≡ notes.old)) }
+        → IsTested options.rules known expected.entry.text.now
+        (map (λ file. file.now) given.now) shown.outcome) }
+    ensures quiet { OnOk result (options.rules ≡ Own → notes.new ≡ notes.old) }
     ensures kept { input_count (map (λ file. file.now) given.now) ≡ 0 → input.new ≡ input.old }
 {
     let mut lists = given_texts(rt, alloc, given, input)?;
@@ -321,8 +199,16 @@ fn tested<'t, R: Files, I: Read>(
     keep_apart(rt, junit, expected.file, given, &wanted)?;
     add_all_named(rt, alloc, given, &wanted, &mut lists)?;
     let read = read_all(alloc, options.rules, &lists)?;
-    add_notes(alloc, notes, &read, options)?;
-    judged(alloc, expected, given, &expectations, &read, junit, options)
+    add_who_limit(notes, options.rules)?;
+    test_lists(
+        alloc,
+        expected,
+        given,
+        &expectations,
+        &read,
+        junit.is_some(),
+        options,
+    )
 }
 
 // The same names, for a shorter life.
@@ -374,13 +260,13 @@ fn write_tested<'a, R: Files, W: Write>(
     rt: &R,
     alloc: Global,
     junit: Option<&'a str>,
-    shown: Shown,
+    shown: Tested,
     out: &mut W,
 ) -> Result<Outcome, Failure<'a>>
     ensures ok { IfOk result (λ outcome. outcome ≡ shown.outcome) }
     ensures err { IfErr result (λ failure. failure_status failure ≡ 3) }
 {
-    let Shown {
+    let Tested {
         text,
         junit: report,
         outcome,
@@ -407,8 +293,9 @@ pub(crate) fn answer_test<'a, R: Files, I: Read, W: Write>(
         ∷ map (λ file. file.now) asked.now.lists.items) ≤ 1 }
     ensures ok { IfOk result (λ outcome. (text : List ℕ)
         × IsTextOf (I.remaining input.old) asked.entry.now.expected.now text
-        × IsTested options.rules options.noted (I.remaining input.old) text
-        (map (λ file. file.now) asked.entry.now.lists.items) outcome (notes.new ≡ notes.old)) }
+        × IsTested options.rules (I.remaining input.old) text
+        (map (λ file. file.now) asked.entry.now.lists.items) outcome) }
+    ensures quiet { OnOk result (options.rules ≡ Own → notes.new ≡ notes.old) }
     ensures unread { IfErr result (λ failure. failure_status failure ≡ 2 → out.new ≡ out.old) }
     ensures kept { input_count (asked.entry.now.expected.now
         ∷ map (λ file. file.now) asked.entry.now.lists.items) ≡ 0 → input.new ≡ input.old }

@@ -3,7 +3,7 @@ use Rattle.std.specs.Prelude.{unwrap_or}
 use Rattle.clap.specs.Words.{found_of, rows_of}
 use Rattle.clap.proofs.WalkLemmas.{one_text-rows}
 use Rattle.mq_acl.specs.declared.rules.Rules.{Rules}
-use Rattle.mq_acl.specs.declared.rules.Rules.TheVariants.{Own}
+use Rattle.mq_acl.specs.declared.rules.Rules.TheVariants.{Mosquitto}
 use Rattle.mq_acl_args.specs.CommandLine.{asked, asked_by_known}
 use Rattle.mq_acl_args.proofs.request.request_of.Goals as goal
 
@@ -18,8 +18,7 @@ returns-in-Some-2 c =
       json = λ e. c.get_flag.ensures.value (read ∙ e);
       no_json = λ e. c.get_flag.ensures.other (read ∙ e);
       steps = c.steps_in.ensures;
-      rules = sym (ap (λ (rules : Option Rules). unwrap_or rules Own) known);
-      noted = c.noted_in.ensures;
+      rules = sym (ap (λ (rules : Option Rules). unwrap_or rules Mosquitto) known);
     }
 
 pub returns-in-None : goal.returns-in-None

@@ -5,7 +5,6 @@ pub returns-in-None-clause-ok : goal.returns-in-None-clause-ok
 returns-in-None-clause-ok g c = (
   rw c.in_ok-outcome.ensures.ok c.in_ok-linted.ensures.ok,
   rw c.in-None.is at c.in_ok-linted.ensures.taken,
-  c.in_ok-linted.ensures.quiet,
 )
 
 pub returns-in-Some-clause-unread : goal.returns-in-Some-clause-unread

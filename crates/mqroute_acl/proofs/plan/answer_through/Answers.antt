@@ -1,13 +1,9 @@
-use Rattle.std.proofs.Common.{◌≡◌, ◌∙◌, ◌≤◌, ◌∷◌, [], true, ap, arith, subst, sym, Result, Ok, Err, IfOk, OnOk}
+use Rattle.std.proofs.Common.{◌≡◌, ◌∙◌, ◌≤◌, ◌∷◌, [], true, ap, arith, subst, sym}
+use Rattle.std.proofs.lemmas.Result.{IfOk-weaker}
 use Rattle.mq_acl_args.specs.Files.{input_count, is_input}
 use Rattle.mqroute_acl.specs.Files.{IsTextOf}
 use Rattle.mqroute_acl.proofs.FilesLemmas.{counts_behind, counts_first, first_is_none, text_behind}
 use Rattle.mqroute_acl.proofs.plan.answer_through.Goals as goal
-
-both_so : {T E : Type 0} (r : Result T E) (P R : T → Type 0) (Q : Type 0)
-    → ((x : T) → P x → Q → R x) → IfOk r P → OnOk r Q → IfOk r R
-both_so (Ok x) P R Q both p q = both x p q
-both_so (Err e) P R Q both p q = tt
 
 pub returns-clause-ok : goal.returns-clause-ok
 returns-clause-ok g c =
@@ -27,7 +23,7 @@ returns-clause-ok g c =
     ap known (c.text_of-2.ensures.kept (first_is_none new (plan ∷ []) fewer
     (counts_first plan [] e))
     ∙ c.text_of.ensures.kept (first_is_none old (new ∷ plan ∷ []) c.requires (some e))) in
-    both_so c.answer_texts.result _ _ _ (λ outcome is quiet. (
+    IfOk-weaker c.show_through.result _ _ (λ outcome is. (
       c.as_str.result.now,
       c.as_str-2.result.now,
       c.as_str-3.result.now,
@@ -39,5 +35,4 @@ returns-clause-ok g c =
           (subst (IsTextOf (known c.text_of-2.new.input) plan) (sym c.as_str-3.ensures.value)
           c.in_ok-plan_text.ensures.ok),
       is,
-      quiet,
-    )) c.answer_texts.ensures.ok c.answer_texts.ensures.quiet
+    )) c.show_through.ensures.ok

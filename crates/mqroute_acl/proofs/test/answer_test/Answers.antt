@@ -8,7 +8,7 @@ returns-in-Ok-clause-ok g c =
     let known = g.I.Read.remaining in
     IfOk-weaker c.write_tested.result _ _
     (λ outcome is.
-    answer_of c.args.options.rules c.args.options.noted (known c.args.input.now)
+    answer_of c.args.options.rules (known c.args.input.now)
     (known c.text_of.new.input) c.args.asked.now.expected.now (map (λ file. file.now) c.args.asked.now.lists.items)
     (map (λ file. file.now) c.deref.result.now) (string_bytes c.in_ok-text.text)
     c.as_str.result.now outcome c.in-Ok.shown.outcome c.requires

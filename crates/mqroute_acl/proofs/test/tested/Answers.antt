@@ -10,14 +10,14 @@ IfOk-both (Err e) P Q R both p q = tt
 pub returns-clause-ok : goal.returns-clause-ok
 returns-clause-ok g c =
     let given = map (λ file. file.now) c.args.given.now in
-    IfOk-both c.judged.result _ _ _
+    IfOk-both c.test_lists.result _ _ _
     (λ shown is some. λ known is_known.
-    tested_of c.args.options.rules c.args.options.noted known c.args.expected.text.now given
+    tested_of c.args.options.rules known c.args.expected.text.now given
     c.in_ok-lists.lists.items c.add_all_named.new.lists.items c.deref-4.result.now
-    c.in_ok-read.read.items c.deref-5.result.now c.deref-7.result.now
-    c.in_ok-expectations.expectations.items c.deref-6.result.now shown.outcome
+    c.in_ok-read.read.items c.deref-6.result.now
+    c.in_ok-expectations.expectations.items c.deref-5.result.now shown.outcome
     (c.in_ok-lists.ensures.ok known is_known) (c.in_ok-add_all_named.ensures known)
-    c.deref-4.ensures.value (c.in_ok-read.ensures known given) c.deref-5.ensures.value
-    c.in_ok-add_notes.ensures c.deref-7.ensures.value c.deref-6.ensures.value
+    c.deref-4.ensures.value (c.in_ok-read.ensures known given) c.deref-6.ensures.value
+    c.deref-5.ensures.value
     c.in_ok-expectations.ensures is some)
-    c.judged.ensures.shown c.judged.ensures.some
+    c.test_lists.ensures.shown c.test_lists.ensures.some

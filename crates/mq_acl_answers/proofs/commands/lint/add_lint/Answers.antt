@@ -1,7 +1,0 @@
-use Rattle.mq_acl_answers.proofs.LintLemmas.{linted}
-use Rattle.mq_acl_answers.proofs.commands.lint.add_lint.Goals as goal
-
-pub returns-clause-ok : goal.returns-clause-ok
-returns-clause-ok c =
-    linted c.args.options.rules c.args.list.text.now c.in_ok-found.found c.outcome_of-outcome.result
-    c.in_ok-found.ensures.ok c.outcome_of-outcome.ensures.clear c.outcome_of-outcome.ensures.remark

@@ -1,6 +1,0 @@
-use Rattle.mq_acl_answers.proofs.ReachAnyLemmas.{some_may}
-use Rattle.mq_acl_answers.proofs.commands.reach_any.outcome_of.Goals as goal
-
-pub returns-in-Some : goal.returns-in-Some
-returns-in-Some c rules rows user wanted found =
-    some_may rules rows user wanted c.in-Some.field-0 (rw c.in-Some.is at found)

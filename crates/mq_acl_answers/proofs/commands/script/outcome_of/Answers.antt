@@ -1,6 +1,0 @@
-use Rattle.std.proofs.Common.{◌≡◌}
-use Rattle.mq_acl_answers.specs.declared.outcome.Outcome.TheVariants.{Clear, Remark}
-use Rattle.mq_acl_answers.proofs.commands.script.outcome_of.Goals as goal
-
-pub returns-clause-clear : goal.returns-clause-clear
-returns-clause-clear c = λ e. absurd (let bad : Remark ≡ Clear = e in cc)

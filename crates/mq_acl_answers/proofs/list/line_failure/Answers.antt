@@ -1,5 +1,0 @@
-use Rattle.std.proofs.Common.{refl}
-use Rattle.mq_acl_answers.proofs.list.line_failure.Goals as goal
-
-pub returns-in-Some : goal.returns-in-Some
-returns-in-Some c fault = (refl, (c.args.fault.line, (c.args.fault, fault, refl)))

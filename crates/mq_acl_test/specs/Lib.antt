@@ -1,5 +1,0 @@
-pub mod Lists
-pub mod Questions
-pub mod Findings
-pub mod Faults
-pub mod Files

@@ -1,0 +1,4 @@
+pub mod Statuses
+pub mod Lists
+pub mod Failures
+pub mod Notes

@@ -1,0 +1,214 @@
+//! Where two lists differ, in words and as JSON.
+use mq_acl::{Row, Rules};
+use mq_ask::{access_word, add_not_asked, add_not_asked_json, rules_owner};
+use mq_ask_cases::{
+    ChangeRow, ScriptTraffic, add_counts, add_pattern, change_table, decision, group_text,
+    publishes_text, rows_word, shown_topic, way_word,
+};
+use mq_differences::{Difference, Group, Way, gather};
+use mq_print::{Datum, Escape, Lines, ListText, add_object, lines_of, shown_lines};
+use mq_topic::LevelText;
+use mq_traffic::Publishes;
+use std::alloc::{AllocError, Global};
+
+/// The publishes of a script, and the rows of two lists that are compared.
+#[derive(Clone, Copy, Drop)]
+pub struct ComparedTraffic<'a> {
+    /// The publishes.
+    pub script: ScriptTraffic<'a>,
+    /// The rows of the old list.
+    pub old: &'a [Row],
+    /// Those of the new list.
+    pub new: &'a [Row],
+}
+
+impl ComparedTraffic<'_> {
+    // The publishes that the difference is about at most: those to topics that the filters of its lines match.
+    fn publishes(self, alloc: Global, difference: &Difference) -> Result<Publishes, AllocError> {
+        let mut patterns = Vec::new(alloc);
+        add_pattern(&mut patterns, self.old, difference.old_reason)?;
+        add_pattern(&mut patterns, self.new, difference.new_reason)?;
+        Ok(self.script.traffic.matched(&patterns))
+    }
+}
+
+/// By whose rules lists were compared, and for whom.
+#[derive(Clone, Copy, Drop)]
+pub struct Scope<'a> {
+    /// Whose.
+    pub rules: Rules,
+    /// Which differences alone are shown, if not all.
+    pub only: Option<Way>,
+    /// Whether client ids and user names with `/`, `+` or `#` are left out.
+    pub is_limited: bool,
+    /// Users whom lines name, and about whom nothing is asked.
+    pub not_asked: &'a [&'a str],
+    /// What the publishes of a script are counted by, if they are.
+    pub traffic: Option<ComparedTraffic<'a>>,
+    /// Whether what is gained is green, and what is lost red.
+    pub coloured: bool,
+}
+
+// The file of the script, and how many of its publishes the difference is about.
+fn publishes_of<'a>(
+    alloc: Global,
+    scope: Scope<'a>,
+    difference: &Difference,
+) -> Result<Option<(&'a str, String)>, AllocError> {
+    let Some(traffic) = scope.traffic else {
+        return Ok(None);
+    };
+    let publishes = traffic.publishes(alloc, difference)?;
+    let words = publishes_text(alloc, publishes)?;
+    Ok(Some((traffic.script.file, words)))
+}
+
+fn change_row<'a>(
+    alloc: Global,
+    scope: Scope<'a>,
+    old: Lines<'a, 'a, 'a>,
+    new: Lines<'a, 'a, 'a>,
+    group: &'a Group,
+) -> Result<ChangeRow<'a>, AllocError> {
+    let difference = &group.first;
+    let old = decision(alloc, old, difference.old_reason)?;
+    let new = decision(alloc, new, difference.new_reason)?;
+    Ok(ChangeRow {
+        who: group_text(alloc, group)?,
+        way: difference.way,
+        direction: difference.direction,
+        topic: shown_topic(alloc, difference)?,
+        sides: vec![in alloc; old, new]?,
+        publishes: publishes_of(alloc, scope, difference)?,
+    })
+}
+
+fn add_json<'a>(
+    alloc: Global,
+    text: &mut String,
+    scope: Scope<'a>,
+    old: Lines<'a, 'a, 'a>,
+    new: Lines<'a, 'a, 'a>,
+    difference: &'a Difference,
+) -> Result<(), AllocError> {
+    let old_line = old.line_if(difference.old_reason.line());
+    let new_line = new.line_if(difference.new_reason.line());
+    let mut data = vec![in alloc;
+        ("access", Datum::Text(access_word(difference.direction))),
+        ("change", Datum::Text(way_word(difference.way))),
+        ("client", Datum::Text(difference.client.as_str())),
+        ("new", Datum::LineIf(new_line)),
+        ("old", Datum::LineIf(old_line)),
+        ("placeholders", Datum::Texts(&difference.placeholders)),
+        ("topic", Datum::Text(difference.topic.text())),
+        ("user", Datum::TextIf(difference.class.user())),
+    ]?;
+    if let Some(traffic) = scope.traffic {
+        add_counts(&mut data, traffic.publishes(alloc, difference)?)?;
+    }
+    add_object(alloc, text, &data)
+}
+
+fn json_lines(
+    alloc: Global,
+    scope: Scope<'_>,
+    old: Lines<'_, '_, '_>,
+    new: Lines<'_, '_, '_>,
+    differences: &[Difference],
+) -> Result<String, AllocError> {
+    let mut text = String::new(alloc);
+    for difference in differences {
+        add_json(alloc, &mut text, scope, old, new, difference)?;
+    }
+    add_not_asked_json(alloc, &mut text, scope.not_asked)?;
+    Ok(text)
+}
+
+fn words<'a>(
+    alloc: Global,
+    scope: Scope<'a>,
+    old: Lines<'a, 'a, 'a>,
+    new: Lines<'a, 'a, 'a>,
+    groups: &'a [Group],
+) -> Result<String, AllocError> {
+    let mut rows = Vec::new(alloc);
+    for group in groups {
+        rows.push(change_row(alloc, scope, old, new, group)?)?;
+    }
+    let mut text = change_table(alloc, &rows, scope.coloured)?;
+    let count = rows.len();
+    let what = rows_word(count, scope.only);
+    let whose = match scope.rules {
+        Rules::Own => "",
+        Rules::Mosquitto => " by mosquitto's rules",
+    };
+    writeln!(text, "{count} {what}{whose}")?;
+    add_users(alloc, &mut text, scope)?;
+    Ok(text)
+}
+
+// Adds the users about whom nothing is asked.
+fn add_users(alloc: Global, text: &mut String, scope: Scope<'_>) -> Result<(), AllocError> {
+    let mut users = String::new(alloc);
+    add_not_asked(&mut users, scope.not_asked)?;
+    let shown = shown_lines(alloc, users.as_str(), Escape::Words)?;
+    text.push_str(shown.as_str())
+}
+
+// Adds that the lists allow the same, or that one of them allows nothing that the other doesn't.
+fn add_none(text: &mut String, only: Option<Way>, old: &str, new: &str) -> Result<(), AllocError> {
+    match only {
+        None => text.push_str("both lists allow the same"),
+        Some(Way::Gained) => write!(text, "{new} allows nothing that {old} doesn't"),
+        Some(Way::Lost) => write!(text, "{old} allows nothing that {new} doesn't"),
+    }
+}
+
+// That the lists don't differ, or not in the way that is asked about.
+fn none_text(alloc: Global, scope: Scope<'_>, old: &str, new: &str) -> Result<String, AllocError> {
+    let whose = rules_owner(scope.rules);
+    let which = if scope.is_limited {
+        " without /, + and # that"
+    } else {
+        ""
+    };
+    let every = if scope.only.is_none() { "every" } else { "any" };
+    let mut text = format!(in alloc; "by {whose} rules ")?;
+    add_none(&mut text, scope.only, old, new)?;
+    writeln!(
+        text,
+        ", on {every} topic, to {every} client id and user name{which} a broker can have"
+    )?;
+    let mut text = shown_lines(alloc, text.as_str(), Escape::Words)?;
+    add_users(alloc, &mut text, scope)?;
+    Ok(text)
+}
+
+/// Where the lists differ: as a table of differences that are alike, or as JSON, one difference a line.
+pub fn changes_text(
+    alloc: Global,
+    scope: Scope<'_>,
+    old: ListText<'_, '_>,
+    new: ListText<'_, '_>,
+    differences: Vec<Difference>,
+    json: bool,
+) -> Result<String, AllocError> {
+    let old_lines = lines_of(alloc, old.text)?;
+    let new_lines = lines_of(alloc, new.text)?;
+    let old = Lines {
+        file: old.file,
+        lines: &old_lines,
+    };
+    let new = Lines {
+        file: new.file,
+        lines: &new_lines,
+    };
+    if json {
+        return json_lines(alloc, scope, old, new, &differences);
+    }
+    if differences.is_empty() {
+        return none_text(alloc, scope, old.file, new.file);
+    }
+    let groups = gather(alloc, differences)?;
+    words(alloc, scope, old, new, &groups)
+}

@@ -1,0 +1,251 @@
+//! The answer to `compare`.
+ghost use Rattle.std.specs.List.{filter, list_any};
+ghost use Rattle.std.specs.Prelude.{◌≡◌, ◌≢◌, ◌⊎◌, ◌++◌, ℕ, List, [], IfOk, IfErr, OnOk, false};
+ghost use Rattle.std.specs.Prelude.{true};
+ghost use Rattle.mq_acl.specs.Views.{row_views};
+ghost use Rattle.mq_acl.specs.declared.rules.Rules.TheVariants.{Own};
+ghost use Rattle.mq_ask.specs.Lists.{AreRows};
+ghost use Rattle.mq_ask.specs.Statuses.{failure_status};
+ghost use Rattle.mq_ask_cases.specs.Ways.{is_way};
+ghost use Rattle.mq_ask_compare.specs.Compare.{AreChanges, IsCompared, SaysWhetherSame};
+ghost use Rattle.mq_ask_compare.specs.Compare.{IsComparisonFailure};
+ghost use Rattle.mq_differences.specs.Faults.{IsComparisonFault};
+ghost use Rattle.mq_who.specs.Unasked.{has_text, is_not_compared};
+
+use crate::changes::{ComparedTraffic, Scope, changes_text};
+use mq_acl::{Row, Rules};
+use mq_ask::{
+    Failure, Options, Outcome, add_limits, check_taken, is_limited, print_outcome, rows_in,
+};
+use mq_ask_cases::{ScriptTraffic, is_way};
+use mq_differences::{ComparisonFault, Difference, Side, Way, compare};
+use mq_print::ListText;
+use mq_who::users_not_compared;
+use std::alloc::{AllocError, Global};
+use std::io::Write;
+
+/// Two lists, and where they differ.
+pub struct Changes {
+    /// The rows of the old list.
+    pub old: Vec<Row>,
+    /// The rows of the new list.
+    pub new: Vec<Row>,
+    /// Where they differ.
+    pub differences: Vec<Difference>,
+}
+
+// Opaque to callers' proofs: one step, and not one for each field (docs/explanation/gate.md).
+impl Drop for Changes {
+    fn drop(self) {
+        let Changes {
+            old: _,
+            new: _,
+            differences: _,
+        } = self;
+    }
+}
+
+impl Changes {
+    // The rows of both lists, and where they differ.
+    fn into_parts(self) -> (Vec<Row>, Vec<Row>, Vec<Difference>) {
+        let Changes {
+            old,
+            new,
+            differences,
+        } = self;
+        (old, new, differences)
+    }
+}
+
+fn comparison_failure<'a>(
+    rules: Rules,
+    old: ListText<'a, '_>,
+    new: ListText<'a, '_>,
+    old_rows: &[Row],
+    new_rows: &[Row],
+    fault: ComparisonFault,
+) -> Failure<'a>
+    requires old { AreRows rules old.text.now old_rows.now }
+    requires new { AreRows rules new.text.now new_rows.now }
+    ensures { (steps : ℕ) → IsComparisonFault rules old_rows.now new_rows.now steps fault
+        → IsComparisonFailure rules old.entry new.entry steps result }
+{
+    match fault {
+        ComparisonFault::Memory => Failure::Memory,
+        ComparisonFault::OldLine(line) => Failure::Long {
+            file: old.file,
+            line,
+        },
+        ComparisonFault::NewLine(line) => Failure::Long {
+            file: new.file,
+            line,
+        },
+        ComparisonFault::OldMark(line) => Failure::Mark {
+            file: old.file,
+            line,
+        },
+        ComparisonFault::NewMark(line) => Failure::Mark {
+            file: new.file,
+            line,
+        },
+        ComparisonFault::GaveUp(Side::Old, line, others) => Failure::GaveUp {
+            file: old.file,
+            line,
+            others,
+        },
+        ComparisonFault::GaveUp(Side::New, line, others) => Failure::GaveUp {
+            file: new.file,
+            line,
+            others,
+        },
+    }
+}
+
+/// Where the lists with these texts differ by these rules. Where so many steps don't suffice to know it, it is given up:
+/// what is answered is always the whole.
+pub fn find_changes<'a>(
+    alloc: Global,
+    rules: Rules,
+    old: ListText<'a, '_>,
+    new: ListText<'a, '_>,
+    steps: u64,
+) -> Result<Changes, Failure<'a>>
+    ensures ok { IfOk result (AreChanges rules old.entry.text.now new.entry.text.now) }
+    ensures err { IfErr result (IsComparisonFailure rules old.entry new.entry steps) }
+{
+    let old_rows = rows_in(alloc, rules, old)?;
+    let new_rows = rows_in(alloc, rules, new)?;
+    match compare(alloc, rules, &old_rows, &new_rows, steps) {
+        Ok(differences) => Ok(Changes {
+            old: old_rows,
+            new: new_rows,
+            differences,
+        }),
+        Err(fault) => Err(comparison_failure(rules, old, new, &old_rows, &new_rows, fault)),
+    }
+}
+
+fn has_change(differences: &[Difference], only: Option<Way>) -> bool
+    ensures { result ≡ list_any (λ d. is_way only d.way) differences.now }
+{
+    differences.iter().any(|d| is_way(only, d.way))
+}
+
+// Whether there are differences that are asked about, or users about whom nothing is.
+fn outcome_of(differences: &[Difference], only: Option<Way>, users: &[&str]) -> Outcome
+    ensures clear { result ≡ Outcome.Clear
+        → (list_any (λ d. is_way only d.way) differences.now ≡ false) × (users.now ≡ []) }
+    ensures remark { result ≡ Outcome.Remark
+        → (list_any (λ d. is_way only d.way) differences.now ≡ true) ⊎ (users.now ≢ []) }
+{
+    if has_change(differences, only) {
+        return Outcome::Remark;
+    }
+    if users.is_empty() {
+        return Outcome::Clear;
+    }
+    Outcome::Remark
+}
+
+// The users whom the lists name, and about whom by these rules nothing is asked.
+fn users_in<'c>(
+    alloc: Global,
+    rules: Rules,
+    changes: &'c Changes,
+) -> Result<Vec<&'c str>, AllocError>
+    ensures { IfOk result (λ users. (name : List ℕ) → has_text users.items name
+        ≡ is_not_compared rules (row_views changes.entry.now.old.items
+        ++ row_views changes.entry.now.new.items) name) }
+{
+    users_not_compared(alloc, rules, &changes.old, &changes.new)
+}
+
+fn outcome_in(
+    alloc: Global,
+    rules: Rules,
+    changes: &Changes,
+    only: Option<Way>,
+) -> Result<Outcome, AllocError>
+    ensures { (old new : List ℕ) → AreChanges rules old new changes.now
+        → IfOk result (SaysWhetherSame rules only (row_views changes.now.old.items)
+        (row_views changes.now.new.items)) }
+{
+    let users = users_in(alloc, rules, changes)?;
+    Ok(outcome_of(&changes.differences, only, &users))
+}
+
+// Those that are asked about.
+fn asked(
+    alloc: Global,
+    differences: Vec<Difference>,
+    only: Option<Way>,
+) -> Result<Vec<Difference>, AllocError>
+    ensures { IfOk result (λ all. all.items
+        ≡ filter (λ d. is_way only d.way) differences.items) }
+{
+    differences
+        .into_iter()
+        .filter(|d| is_way(only, d.way))
+        .collect(alloc)
+}
+
+fn answer_text(
+    alloc: Global,
+    lists: (ListText<'_, '_>, ListText<'_, '_>),
+    only: Option<Way>,
+    script: Option<ScriptTraffic<'_>>,
+    options: Options,
+    changes: Changes,
+) -> Result<String, AllocError> {
+    let (old, new, differences) = changes.into_parts();
+    let not_asked = users_not_compared(alloc, options.rules, &old, &new)?;
+    let rules = options.rules;
+    let traffic = script.map(|script| ComparedTraffic {
+        script,
+        old: &old,
+        new: &new,
+    });
+    let scope = Scope {
+        rules,
+        only,
+        is_limited: is_limited(rules, &old) || is_limited(rules, &new),
+        not_asked: &not_asked,
+        traffic,
+        coloured: options.coloured,
+    };
+    let differences = asked(alloc, differences, only)?;
+    changes_text(alloc, scope, lists.0, lists.1, differences, options.json)
+}
+
+/// Shows where the lists with these texts differ, or what one of them alone allows, if so many
+/// steps suffice to know it, and notes of whom it isn't known. Where a script is given, its publishes
+/// that each difference is about at most are counted. Of a list that mosquitto doesn't take nothing
+/// is answered.
+pub fn show_changes<'a, W: Write>(
+    alloc: Global,
+    old: ListText<'a, '_>,
+    new: ListText<'a, '_>,
+    only: Option<Way>,
+    script: Option<ScriptTraffic<'_>>,
+    options: Options,
+    out: &mut W,
+    notes: &mut String,
+) -> Result<Outcome, Failure<'a>>
+    ensures ok { IfOk result (IsCompared options.rules only old.entry.text.now
+        new.entry.text.now) }
+    ensures unread { IfErr result (λ failure. failure_status failure ≡ 2 → out.new ≡ out.old) }
+    ensures quiet { OnOk result (options.rules ≡ Own → notes.new ≡ notes.old) }
+{
+    check_taken(alloc, old)?;
+    check_taken(alloc, new)?;
+    let changes = find_changes(alloc, options.rules, old, new, options.steps)?;
+    let outcome = outcome_in(alloc, options.rules, &changes, only)?;
+    add_limits(
+        notes,
+        options.rules,
+        (old.file, &changes.old),
+        (new.file, &changes.new),
+    )?;
+    let text = answer_text(alloc, (old, new), only, script, options, changes);
+    print_outcome(out, text, outcome)
+}

@@ -1,0 +1,291 @@
+//! Remarks on lines, in words and as JSON.
+use mq_acl::Rules;
+use mq_ask::{Options, fault_words, reload_words, rules_owner};
+use mq_lint::{Ids, Remark, RemarkKind};
+use mq_print::{Datum, Escape, Lines, ListText, add_object, lines_of, shown_lines};
+use std::alloc::{AllocError, Global};
+
+const NO_MARK: &str = "a pattern line without %c and %u applies to every client";
+
+const NO_MARK_MOSQUITTO: &str = "a pattern line without %c and %u applies to every client, \
+                                 but for what its own topic lines decide";
+
+const INDENTED: &str = "mosquitto 2.0 takes # for a comment in the first column only";
+
+const TAB: &str = "mosquitto 2.0 separates words by spaces only, not by tabs";
+
+const HIDDEN: &str = "characters that a terminal acts on or that can't be seen, shown as \\u{..}";
+
+const DENIES_NOTHING: &str = "denies nothing that a line grants";
+
+const NEEDLESS: &str = "needless: without it the list allows the same";
+
+const EMPTY: &str = "no topic or pattern line: nothing is allowed to anybody";
+
+const REFUSED: &str = "mosquitto 2.0 doesn't take this line";
+
+const NOTHING: &str = "no line is faulty or odd, repeats another, denies nothing or is needless, \
+                       for any client id and user name";
+
+const UNKNOWN: &str = "; whether a deny line with %c or %u, or a line for a user name with /, + \
+                       or #, is needless isn't known";
+
+// The kind of what is said of a list that mosquitto doesn't take.
+const NOT_TAKEN: &str = "not taken";
+
+fn kind_name(kind: RemarkKind) -> &'static str {
+    match kind {
+        RemarkKind::Fault(_) => "fault",
+        RemarkKind::NoMark => "no mark",
+        RemarkKind::IndentedComment => "indented comment",
+        RemarkKind::Tab => "tab",
+        RemarkKind::Hidden => "hidden characters",
+        RemarkKind::Repeats(_) => "repeats",
+        RemarkKind::DeniesNothing(_) => "denies nothing",
+        RemarkKind::Needless(_, _) => "needless",
+    }
+}
+
+// The line that this one repeats, or that makes it needless.
+fn other_line(kind: RemarkKind) -> Option<u64> {
+    match kind {
+        RemarkKind::Repeats(other) => Some(other),
+        RemarkKind::Needless(_, by) => by,
+        _ => None,
+    }
+}
+
+fn no_mark(rules: Rules) -> &'static str {
+    match rules {
+        Rules::Own => NO_MARK,
+        Rules::Mosquitto => NO_MARK_MOSQUITTO,
+    }
+}
+
+// For whom a remark holds, if not for all.
+fn whom_words(ids: Ids) -> &'static str {
+    match ids {
+        Ids::Every => "",
+        Ids::Plain => " (for client ids and user names without /, + and #)",
+    }
+}
+
+fn kind_words(
+    alloc: Global,
+    rules: Rules,
+    line: &str,
+    kind: RemarkKind,
+) -> Result<String, AllocError> {
+    match kind {
+        RemarkKind::Fault(kind) => fault_words(alloc, rules, line, kind),
+        RemarkKind::NoMark => String::from_str(alloc, no_mark(rules)),
+        RemarkKind::IndentedComment => String::from_str(alloc, INDENTED),
+        RemarkKind::Tab => String::from_str(alloc, TAB),
+        RemarkKind::Hidden => String::from_str(alloc, HIDDEN),
+        RemarkKind::Repeats(other) => format!(in alloc; "repeats line {other}"),
+        RemarkKind::DeniesNothing(ids) => {
+            let whom = whom_words(ids);
+            format!(in alloc; "{DENIES_NOTHING}{whom}")
+        }
+        RemarkKind::Needless(ids, None) => {
+            let whom = whom_words(ids);
+            format!(in alloc; "{NEEDLESS}{whom}")
+        }
+        RemarkKind::Needless(ids, Some(other)) => {
+            let whom = whom_words(ids);
+            format!(in alloc; "{NEEDLESS}, because of line {other}{whom}")
+        }
+    }
+}
+
+fn add_words(
+    alloc: Global,
+    text: &mut String,
+    list: Lines<'_, '_, '_>,
+    line: u64,
+    words: &str,
+) -> Result<(), AllocError> {
+    let file = list.file;
+    let said = list.line(line);
+    let words = format!(in alloc; "{file}:{line}: {words}\n    {said}\n")?;
+    let shown = shown_lines(alloc, words.as_str(), Escape::Words)?;
+    text.push_str(shown.as_str())
+}
+
+// Adds what is said of the list as a whole.
+fn add_of_file<'a>(
+    alloc: Global,
+    text: &mut String,
+    file: &'a str,
+    kind: &'a str,
+    words: &'a str,
+) -> Result<(), AllocError> {
+    add_object(
+        alloc,
+        text,
+        &[
+            ("file", Datum::Text(file)),
+            ("kind", Datum::Text(kind)),
+            ("line", Datum::NumberIf(None)),
+            ("other", Datum::NumberIf(None)),
+            ("text", Datum::TextIf(None)),
+            ("words", Datum::Text(words)),
+        ],
+    )
+}
+
+fn add_json<'a>(
+    alloc: Global,
+    text: &mut String,
+    list: Lines<'a, 'a, 'a>,
+    remark: Remark,
+    kind: &'a str,
+    words: &'a str,
+) -> Result<(), AllocError> {
+    add_object(
+        alloc,
+        text,
+        &[
+            ("file", Datum::Text(list.file)),
+            ("kind", Datum::Text(kind)),
+            ("line", Datum::Number(remark.line)),
+            ("other", Datum::NumberIf(other_line(remark.kind))),
+            ("text", Datum::Text(list.line(remark.line))),
+            ("words", Datum::Text(words)),
+        ],
+    )
+}
+
+fn add_remark(
+    alloc: Global,
+    text: &mut String,
+    list: Lines<'_, '_, '_>,
+    remark: Remark,
+    options: Options,
+) -> Result<(), AllocError> {
+    let line = list.whole_line(remark.line);
+    let words = kind_words(alloc, options.rules, line, remark.kind)?;
+    if options.json {
+        let kind = kind_name(remark.kind);
+        return add_json(alloc, text, list, remark, kind, words.as_str());
+    }
+    add_words(alloc, text, list, remark.line, words.as_str())
+}
+
+fn add_all(
+    alloc: Global,
+    text: &mut String,
+    list: Lines<'_, '_, '_>,
+    remarks: &[Remark],
+    options: Options,
+) -> Result<(), AllocError> {
+    for remark in remarks {
+        add_remark(alloc, text, list, *remark, options)?;
+    }
+    Ok(())
+}
+
+/// Adds the remarks on the lines of a list, each with the text of its line; needless lines come last.
+pub(crate) fn add_remarks(
+    alloc: Global,
+    text: &mut String,
+    list: ListText<'_, '_>,
+    odd: &[Remark],
+    needless: &[Remark],
+    options: Options,
+) -> Result<(), AllocError> {
+    let lines = lines_of(alloc, list.text)?;
+    let list = Lines {
+        file: list.file,
+        lines: &lines,
+    };
+    add_all(alloc, text, list, odd, options)?;
+    add_all(alloc, text, list, needless, options)
+}
+
+// Adds that mosquitto doesn't take a line on which nothing else is remarked.
+fn add_refused_line(
+    alloc: Global,
+    text: &mut String,
+    list: Lines<'_, '_, '_>,
+    remark: Remark,
+    options: Options,
+) -> Result<(), AllocError> {
+    let line = list.whole_line(remark.line);
+    let why = kind_words(alloc, Rules::Mosquitto, line, remark.kind)?;
+    let words = format!(in alloc; "{REFUSED}: {why}")?;
+    if options.json {
+        return add_json(alloc, text, list, remark, NOT_TAKEN, words.as_str());
+    }
+    add_words(alloc, text, list, remark.line, words.as_str())
+}
+
+// Adds what mosquitto does with a list that it doesn't take.
+fn add_reload(alloc: Global, text: &mut String, file: &str, json: bool) -> Result<(), AllocError> {
+    let words = reload_words(alloc, file)?;
+    if json {
+        return add_of_file(alloc, text, file, NOT_TAKEN, words.as_str());
+    }
+    let shown = shown_lines(alloc, words.as_str(), Escape::Words)?;
+    text.push_str(shown.as_str())?;
+    text.push('\n')
+}
+
+/// Adds which lines of the list mosquitto doesn't take, if it is so of some: those on which nothing
+/// else was remarked, and then what it does with such a list.
+pub(crate) fn add_refused(
+    alloc: Global,
+    text: &mut String,
+    list: ListText<'_, '_>,
+    odd: &[Remark],
+    refused: &[Remark],
+    options: Options,
+) -> Result<(), AllocError> {
+    if refused.is_empty() {
+        return Ok(());
+    }
+    let lines = lines_of(alloc, list.text)?;
+    let lines = Lines {
+        file: list.file,
+        lines: &lines,
+    };
+    for remark in refused {
+        if !odd.iter().any(|other| other.line == remark.line) {
+            add_refused_line(alloc, text, lines, *remark, options)?;
+        }
+    }
+    add_reload(alloc, text, list.file, options.json)
+}
+
+/// Adds that there is no remark on the list in this file, by whose rules, and whether client ids and user
+/// names with `/`, `+` or `#` are left out.
+pub(crate) fn add_none(
+    text: &mut String,
+    file: &str,
+    rules: Rules,
+    is_limited: bool,
+) -> Result<(), AllocError> {
+    let whose = rules_owner(rules);
+    let (which, unknown) = if is_limited {
+        (" without /, + and # that", UNKNOWN)
+    } else {
+        ("", "")
+    };
+    writeln!(
+        text,
+        "{file}: nothing to remark: by {whose} rules {NOTHING}{which} a broker can have{unknown}"
+    )
+}
+
+/// Adds that the list in this file has no row, and what that means.
+pub(crate) fn add_empty(
+    alloc: Global,
+    text: &mut String,
+    file: &str,
+    json: bool,
+) -> Result<(), AllocError> {
+    if json {
+        return add_of_file(alloc, text, file, "empty", EMPTY);
+    }
+    writeln!(text, "{file}: {EMPTY}")
+}

@@ -1,0 +1,2 @@
+pub mod Renamed
+pub mod Plan

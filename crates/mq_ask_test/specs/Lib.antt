@@ -1,0 +1,6 @@
+pub mod Lists
+pub mod Questions
+pub mod Findings
+pub mod Faults
+pub mod Files
+pub mod Tested

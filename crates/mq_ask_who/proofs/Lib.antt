@@ -1,0 +1,3 @@
+pub mod WhoLemmas
+pub mod WhoFailureLemmas
+pub mod ReachAnyLemmas

@@ -1,0 +1,18 @@
+use Rattle.std.specs.Option.{option_copied}
+use Rattle.std.proofs.lemmas.Result.{IfOk-weaker}
+use Rattle.mq_acl.specs.Views.{row_views}
+use Rattle.mq_ask_who.specs.ReachAny.{IsReachedByAny}
+use Rattle.mq_ask_who.proofs.reach_any.show_reach_any.Goals as goal
+
+pub returns-clause-ok : goal.returns-clause-ok
+returns-clause-ok g c =
+    let found = c.in_ok-found.ensures.ok in
+    let rules = c.args.options.rules in
+    let user = option_copied c.args.user in
+    let is : IsReachedByAny rules c.args.list.text.now user c.args.wanted.now
+    c.outcome_of-outcome.result = record {
+      rows = row_views found.rows;
+      read = found.are_rows.read;
+      shown = c.outcome_of-outcome.ensures rules found.rows user c.args.wanted.now found.shown;
+    } in
+    IfOk-weaker c.print_outcome.result _ _ (λ shown e. rw e is) c.print_outcome.ensures.ok

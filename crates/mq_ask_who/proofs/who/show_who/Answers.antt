@@ -1,0 +1,33 @@
+use Rattle.std.specs.Option.{option_copied}
+use Rattle.std.proofs.Common.{List, subst, sym, true, ap, ◌∙◌, ◌≡◌, Ok}
+use Rattle.std.proofs.lemmas.Result.{IfOk-weaker}
+use Rattle.mq_acl.specs.Rows.{AclRow}
+use Rattle.mq_acl.specs.Views.{row_views}
+use Rattle.mq_differences.specs.declared.difference.Difference.{Difference}
+use Rattle.mq_who.specs.Unasked.{has_text}
+use Rattle.mq_who.specs.Who.{IsListing}
+use Rattle.mq_ask_who.specs.Who.{AreNotAsked, IsWho, is_not_asked}
+use Rattle.mq_ask_who.proofs.who.show_who.Goals as goal
+
+pub returns-clause-ok : goal.returns-clause-ok
+returns-clause-ok g c =
+    let found = c.in_ok-permissions.ensures.ok in
+    let rules = c.args.options.rules in
+    let wanted = c.args.wanted.now in
+    let only = option_copied c.args.selection.only in
+    let same : row_views c.in_ok-rows.rows.items ≡ row_views found.rows =
+    (let both : Ok (row_views c.in_ok-rows.rows.items) ≡ Ok (row_views found.rows) =
+    sym c.in_ok-rows.ensures.ok.read ∙ found.are_rows.read in cc) in
+    let users : AreNotAsked rules (row_views found.rows) only c.deref-3.result.now =
+    λ name. ap (λ all. has_text all name) c.deref-3.ensures.value ∙ c.in_ok-users.ensures name
+    ∙ ap (λ (rows : List AclRow). is_not_asked rules rows only name)
+    (ap row_views c.deref.ensures.value ∙ same) in
+    let is : IsWho rules c.args.list.text.now wanted c.args.selection.access only
+    c.outcome_of-outcome.result = record {
+      rows = row_views found.rows;
+      read = found.are_rows.read;
+      shown = c.outcome_of-outcome.ensures rules found.rows wanted
+          (subst (λ (all : List Difference). IsListing rules true found.rows wanted all)
+          (sym c.deref-2.ensures.value) found.granted) users;
+    } in
+    IfOk-weaker c.print_outcome.result _ _ (λ shown e. rw e is) c.print_outcome.ensures.ok

@@ -1,0 +1,2 @@
+pub mod Who
+pub mod ReachAny
