@@ -1,24 +1,29 @@
 #!/usr/bin/env python3
 """Tries the must-fail edits that the gate leaves out. They stand in dev/edits/CRATE.
 
-usage: edits.py [CRATE..]   those of these crates, or all: the prover has to refuse each
-       edits.py --in-turn   those of one crate, in turn by the number of commits
-       edits.py --compiled  has the compiler read all of them, and those of the gate, over the
-                            sources as they are
+usage: edits.py [CRATE..]         those of these crates, or all: the prover has to refuse each
+       edits.py --in-turn MINUTES those of one crate, in turn by the number of commits, as many as
+                                  so many minutes suffice for
+       edits.py --compiled        has the compiler read all of them, and those of the gate, over
+                                  the sources as they are
 
 Each says in its first line what stands for it in the gate (docs/explanation/gate.md): a clause of a
 crate above, whose proof needs what the edit takes away, or an edit of the gate, or nothing. In turn
 come the crates of those with nothing first. Made for rattle-kit-13f, whose `rt ci CRATE` takes what
-is proved from where the toolchain keeps it; where `rt ci` takes no names, `rt must-fail CRATE`
-proves the crates below in a copy. Ends with 0 where each is refused, or compiled, and else with 1.
+is proved from where the toolchain keeps it; in CI, where it takes no names, `rt ci` goes over all.
+With a kit that knows of no names, `rt must-fail CRATE` proves the crates below in a copy. Ends with
+0 where each that was tried is refused, or where each is compiled, and else with 1.
 """
+import collections
 import os
 import pathlib
 import re
 import shutil
+import signal
 import subprocess
 import sys
 import tempfile
+import threading
 import time
 from collections.abc import Iterator
 from typing import NamedTuple
@@ -28,6 +33,9 @@ import toolchain
 TOP = pathlib.Path(__file__).resolve().parent.parent
 EDITS = TOP / "dev" / "edits"
 PROGRAM = "mqroute_acl"  # The one with edits. All libraries are compiled with it.
+# What is said of an edit that isn't refused.
+FAILS = re.compile(r": (NOT REFUSED|BAD EDIT)")
+SHOWN = 20  # lines of what `rt` said, where it fails
 # Where the compiler writes which stages it has ended, and how it names the one that refuses code.
 STAGES, FRONT_END = "stages", "stage front-end "
 
@@ -104,33 +112,68 @@ def put_edits(folder: pathlib.Path, crate: str) -> None:
         (to / edit.path.name).write_text(rest, encoding="utf-8")
 
 
-def tried(folder: pathlib.Path, crates: list[str]) -> int:
-    """Has the edits tried, and shows what is said of each."""
-    command = ["rt", "ci", *crates]
+class Stop:
+    """Ends a run, and all that it started, after some minutes."""
+
+    def __init__(self, run: subprocess.Popen[str], minutes: float | None) -> None:
+        self.run, self.is_due = run, False
+        self.timer = threading.Timer(60 * (minutes or 0), self.end)
+        if minutes is not None:
+            self.timer.start()
+
+    def end(self) -> None:
+        self.is_due = True
+        os.killpg(self.run.pid, signal.SIGTERM)
+
+    def __enter__(self) -> "Stop":
+        return self
+
+    def __exit__(self, *_: object) -> None:
+        self.timer.cancel()
+
+
+def command_for(crates: list[str]) -> list[str]:
+    """What has the edits of these crates tried. In CI `rt ci` takes no names, since with them it
+    isn't the gate: there it goes over all crates, which it kept when the gate passed them."""
     if not toolchain.ci_takes_names():
         print(f"edits.py: made for {toolchain.MADE_FOR}; `rt ci` of {toolchain.version()} takes no "
               "names of crates: `rt must-fail` proves the crates below first", file=sys.stderr)
-        command = ["rt", "must-fail", *crates]
-    status, line = 0, ""
-    with subprocess.Popen(command, cwd=folder, stdout=subprocess.PIPE, stderr=subprocess.STDOUT,
-                          text=True, errors="replace") as run:
+        return ["rt", "must-fail", *crates]
+    return ["rt", "ci"] if os.environ.get("CI") == "true" else ["rt", "ci", *crates]
+
+
+def tried(folder: pathlib.Path, crates: list[str], minutes: float | None = None) -> int:
+    """Has the edits tried, and shows what is said of each, and how many weren't tried in time."""
+    status, count = 0, 0
+    last: collections.deque[str] = collections.deque(maxlen=SHOWN)
+    with subprocess.Popen(command_for(crates), cwd=folder, stdout=subprocess.PIPE,
+                          stderr=subprocess.STDOUT, text=True, errors="replace",
+                          start_new_session=True) as run, Stop(run, minutes) as stop:
         for line in run.stdout or ():
+            last.append(line)
             if line.startswith("rt: must-fail"):
                 print(line, end="", flush=True)
-            if "BAD EDIT" in line:  # for which `rt ci` doesn't fail
-                status = 1
-    print(line, end="")
-    return status or (1 if run.returncode else 0)
+                count += 1
+                status |= FAILS.search(line) is not None
+    wanted = sum(len(edits_of(crate)) for crate in crates)
+    if stop.is_due:
+        print(f"edits.py: stopped after {minutes:g} minutes: {count} of {wanted} edits were tried")
+        return status
+    if run.returncode:
+        print(*last, sep="", end="")
+        return 1
+    print(f"edits.py: {count} of {wanted} edits were tried")
+    return status | (count < wanted)
 
 
-def tried_of(crates: list[str]) -> int:
+def tried_of(crates: list[str], minutes: float | None = None) -> int:
     """Tries the edits of these crates in a copy."""
     with tempfile.TemporaryDirectory(prefix="mqroute-edits-") as name:
         folder = pathlib.Path(name)
         copied(folder)
         for crate in crates:
             put_edits(folder, crate)
-        return tried(folder, crates)
+        return tried(folder, crates, minutes)
 
 
 def commits() -> int | None:
@@ -146,14 +189,14 @@ def commits() -> int | None:
     return None
 
 
-def in_turn() -> int:
-    """Tries the edits of the crate whose turn it is."""
+def in_turn(minutes: float) -> int:
+    """Tries the edits of the crate whose turn it is, as long as that is."""
     names, count = crates_with_edits(), commits()
     if count is None:
         print("edits.py: git can't count the commits here: the first crate is tried")
     crate = names[(count or 0) % len(names)]
     print(f"edits.py: {crate}, {len(edits_of(crate))} edits")
-    return tried_of([crate])
+    return tried_of([crate], minutes)
 
 
 class NotApplied(Exception):
@@ -328,8 +371,8 @@ def compiled() -> int:
 
 def main() -> int:
     """Tries the edits of the crates that are named, or does what the flag says."""
-    if sys.argv[1:] == ["--in-turn"]:
-        return in_turn()
+    if sys.argv[1:2] == ["--in-turn"] and len(sys.argv) == 3:
+        return in_turn(float(sys.argv[2]))
     if sys.argv[1:] == ["--compiled"]:
         return compiled()
     known = crates_with_edits()

@@ -8,9 +8,9 @@ MADE_FOR = "rattle-kit-13f"
 
 
 def said(*words: str) -> str:
-    """What `rt` says; nothing where there is none."""
+    """What `rt` says; nothing where there is none. Some kits write their help to standard error."""
     try:
-        done = subprocess.run(["rt", *words], stdout=subprocess.PIPE, stderr=subprocess.DEVNULL,
+        done = subprocess.run(["rt", *words], stdout=subprocess.PIPE, stderr=subprocess.STDOUT,
                               text=True, errors="replace")
     except OSError:
         return ""

@@ -1,13 +1,19 @@
 """What dev/edits says of itself: each edit names what stands for it in the gate, which is there."""
+import contextlib
+import io
+import os
 import pathlib
 import re
 import sys
+import tempfile
 import unittest
+import unittest.mock
 
 TOP = pathlib.Path(__file__).resolve().parent.parent
 sys.path.append(str(TOP / "dev"))
 
 import edits  # noqa: E402
+import toolchain  # noqa: E402
 
 
 def clauses_of(crate: str, function: str) -> list[str]:
@@ -69,6 +75,51 @@ class Read(unittest.TestCase):
         batch.texts = texts
         self.assertEqual([batch.takes(edit) for edit in (one, two, three)], [True, False, True])
         self.assertEqual(batch.texts, {f"crates/mq_tree/{file}": "c e"})
+
+
+class Tried(unittest.TestCase):
+    """By an `rt` that says what it is told to, and then ends so, or goes on for a minute."""
+    REFUSED = "rt: must-fail mq_topic/a.edit: refused, as it must be\n"
+
+    def tried(self, said: str, end: str = "exec sleep 60", minutes: float = 0.02,
+              **around: str) -> tuple[int, str]:
+        with tempfile.TemporaryDirectory() as name:
+            program = pathlib.Path(name, "rt")
+            program.write_text("#!/bin/sh\ncase $1 in help) echo 'rt ci NAME..'; exit;; "
+                               f"version) exit;; esac\nprintf '{said}'\necho \"$@\"\n{end}\n",
+                               encoding="utf-8")
+            program.chmod(0o755)
+            around = {"PATH": f"{name}:{os.environ['PATH']}", "CI": "", **around}
+            out = io.StringIO()
+            toolchain.ci_takes_names.cache_clear()
+            self.addCleanup(toolchain.ci_takes_names.cache_clear)
+            with unittest.mock.patch.dict(os.environ, around), contextlib.redirect_stdout(out), \
+                    contextlib.redirect_stderr(io.StringIO()):
+                return edits.tried(pathlib.Path(name), ["mq_topic"], minutes), out.getvalue()
+
+    def test_what_is_not_tried_in_time_is_counted(self):
+        count = len(edits.edits_of("mq_topic"))
+        self.assertEqual(self.tried(self.REFUSED.replace("\n", r"\n")),
+                         (0, f"{self.REFUSED}edits.py: stopped after 0.02 minutes: "
+                             f"1 of {count} edits were tried\n"))
+
+    def test_one_that_is_not_refused_fails(self):
+        for fault in ("NOT REFUSED: it is proved", "BAD EDIT: no such file"):
+            status, _ = self.tried(rf"rt: must-fail mq_topic/a.edit: {fault}\n")
+            self.assertEqual(status, 1)
+
+    def test_one_that_is_left_out_fails(self):
+        status, shown = self.tried(self.REFUSED.replace("\n", r"\n"), end="exit 0", minutes=1)
+        self.assertEqual(status, 1)
+        self.assertIn(f"1 of {len(edits.edits_of('mq_topic'))} edits were tried", shown)
+
+    def test_what_a_run_that_fails_said_is_shown(self):
+        self.assertEqual(self.tried(r"the disk is full\n", end="exit 2", minutes=1),
+                         (1, "the disk is full\nci mq_topic\n"))
+
+    def test_in_ci_the_run_is_over_all_crates(self):
+        """`rt ci` takes no names there: with them it isn't the gate."""
+        self.assertEqual(self.tried("", end="exit 2", minutes=1, CI="true"), (1, "ci\n"))
 
 
 if __name__ == "__main__":
