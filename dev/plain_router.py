@@ -1,6 +1,6 @@
 #!/usr/bin/env python3
 """Answers a script as mqroute does, by another reading: docs/reference and docs/definitions put
-into Python's lists (plain/).
+into Python's lists (tools/mqroute_tools/plain).
 
 It has no tree, no index and no queue of turns: each command looks at every row of every list, so it
 is slow, and its answers owe nothing to mqroute's code. What tests/rows wants is written by it where
@@ -11,69 +11,31 @@ it is too long to be written by hand.
     dev/plain_router.py --check      answers each row of tests/rows, each conformance case and each
                                      example, and compares
 """
-import argparse
-import json
+import io
 import pathlib
 import sys
 
-from plain import access_lists, mosquitto_lists
-from plain.lines import reading
-from plain.refusals import CODES, Refused
-from plain.world import World
+TOP = pathlib.Path(__file__).resolve().parent.parent
+sys.path.insert(0, str(TOP / "tools"))
+from mqroute_tools.plain.__main__ import main, parsed  # noqa: E402
+from mqroute_tools.plain.reader import Reader  # noqa: E402
 
 
-LISTS = {"own": access_lists, "mosquitto": mosquitto_lists}
-
-
-def printed(line, values):
-    left_out = {
-        name for name in values if values[name] is None or name == "ids" and values[name] == []}
-    kept = {name: it for name, it in values.items() if name not in left_out} | {"line": line}
-    return json.dumps(
-        kept, ensure_ascii=False, sort_keys=True, separators=(",", ":")).encode() + b"\n"
-
-
-def answered(world, line, number):
-    """What is written for a line, and whether it is refused."""
-    try:
-        command = reading(line)
-        if command is None:
-            return b"", False
-        copies, closing = world.apply(*command)
-        return b"".join(printed(number, values) for values in copies + [closing]), False
-    except Refused as it:
-        return printed(
-            number, {"acl_line": it.acl_line, "code": CODES[it.name], "refused": it.name}), True
-
-
-def output(world, script):
+def output(script, acl=None, max_retained=None, max_queued=None, rules="own"):
     """What is written for a script, and the exit status."""
-    lines = script.split(b"\n")
-    if lines[-1] == b"":
-        lines.pop()
-    shown = [answered(world, line, number) for number, line in enumerate(lines, 1)]
-    has_refusal = any(is_refused for _, is_refused in shown)
-    return b"".join(text for text, _ in shown), 1 if has_refusal else 0
+    reader = Reader(acl, max_retained, max_queued, rules)
+    text = b"".join(reader.answers(io.BytesIO(script)))
+    return text, 1 if reader.has_refused else 0
 
 
-def run(words, script, folder="."):
-    parser = argparse.ArgumentParser()
-    parser.add_argument("--acl-file")
-    parser.add_argument("--rules", choices=LISTS, default="own")
-    parser.add_argument("--max-retained", type=int)
-    parser.add_argument("--max-queued", type=int, default=1000)
-    parser.add_argument("script", nargs="?", default="-")
-    options = parser.parse_args(words)
-    rows, lists = None, LISTS[options.rules]
+def run(words, script, folder):
+    options = parsed(words)
+    acl = None
     if options.acl_file is not None:
-        rows = lists.rows_of(pathlib.Path(folder, options.acl_file).read_bytes().decode())
-        if isinstance(rows, tuple):
-            sys.exit(f"plain_router: access list {options.acl_file} line {rows[0]}: {rows[1]}")
+        acl = pathlib.Path(folder, options.acl_file).read_bytes().decode()
     if options.script != "-":
         script = pathlib.Path(folder, options.script).read_bytes()
-    if script is None:
-        script = sys.stdin.buffer.read()
-    return output(World(rows, options.max_retained, options.max_queued, lists), script)
+    return output(script, acl, options.max_retained, options.max_queued, options.rules)
 
 
 def cases(top):
@@ -96,9 +58,8 @@ def cases(top):
 
 
 def check():
-    top = pathlib.Path(__file__).resolve().parent.parent
     found = [(name, run(words, script, folder) == wanted)
-             for name, words, script, folder, wanted in cases(top)]
+             for name, words, script, folder, wanted in cases(TOP)]
     wrong = [name for name, is_right in found if not is_right]
     for name in wrong:
         print(f"plain_router: {name} wants something else")
@@ -107,8 +68,4 @@ def check():
 
 
 if __name__ == "__main__":
-    if sys.argv[1:] == ["--check"]:
-        sys.exit(check())
-    written, status = run(sys.argv[1:], None)
-    sys.stdout.buffer.write(written)
-    sys.exit(status)
+    sys.exit(check() if sys.argv[1:] == ["--check"] else main())

@@ -13,7 +13,7 @@ import json
 import pathlib
 import sys
 
-from plain_router import World, output
+from plain_router import output
 
 ROW = pathlib.Path("tests/rows/three-hundred")
 N = 300
@@ -128,7 +128,7 @@ def end():
 
 
 script = "".join(text + "\n" for text in [*begin(), *jobs(), *all_at_once(), *end()]).encode()
-written, status = output(World(), script)
+written, status = output(script)
 made = {".jsonl": script, ".out": written, ".status": f"{status}\n".encode()}
 if "--check" in sys.argv:
     old = [name for name, text in made.items() if ROW.with_suffix(name).read_bytes() != text]

@@ -1,86 +1,13 @@
-"""What mqroute-acl says of a list beside its answers, and of who may: where mosquitto decides
-otherwise, and who, on random small lists, beside a test of every client, user and topic of few
-levels (plain_lists.py)."""
-import functools
+"""What mqroute-acl says of who may, on random small lists, beside a test of every client, user and
+topic of few levels (plain_lists.py)."""
 import itertools
 import json
-import re
 
-from plain_lists import MosquittoRules, OwnRules, Row, accesses, allowed, deciding
-
-OTHERWISE = re.compile(
-    r"(?P<file>.*?):(?P<line>\d+): mosquitto 2\.0 \(--rules mosquitto\) decides otherwise: "
-    r"(user (?P<user>.*) with client id (?P<client>.*)|client id (?P<alone>.*) without a user name)"
-    r" may( not)? (?P<access>read|write) (?P<topic>.*?)( by line (?P<by>\d+))?")
-SAME = "mosquitto 2.0 allows the same"
-IN_VAIN = re.compile(
-    r"(?P<file>[^:]+):(?P<line>\d+): mosquitto lets no client (?P<access>read|write) topics that "
-    r"begin with \$share(, or with \$SYS but for \$SYS/broker/connection/\+/state)?, whatever the "
-    r"list says")
+from plain_lists import Row, accesses, allowed, deciding
 
 
 def number_of(row):
     return row and row.number
-
-
-def faults_of_case(found, rows):
-    """What is wrong with a case that is noted."""
-    client = found["client"] if found["alone"] is None else found["alone"]
-    asked = (rows, client, found["user"], found["topic"], found["access"])
-    if allowed(OwnRules, *asked) == allowed(MosquittoRules, *asked):
-        yield f"{found[0]}: both decide the same"
-    own, theirs = (deciding(rules, *asked)[0] for rules in (OwnRules, MosquittoRules))
-    by = found["by"] and int(found["by"])
-    if (int(found["line"]), by) != (number_of(own or theirs), number_of(theirs)):
-        yield f"{found[0]}: they are decided by {own} and {theirs}"
-
-
-@functools.lru_cache(maxsize=8)
-def decided_otherwise(rows, asked_about):
-    """A client, user and topic of which the rules decide otherwise, if there is one, but for what
-    mosquitto refuses by itself."""
-    if not any(row.is_pattern for row in rows):
-        return None
-    return next((case for case in asked_about if {
-        access for access in accesses(OwnRules, rows, *case)
-        if not MosquittoRules.refuses(case[2], access)}
-        != accesses(MosquittoRules, rows, *case)), None)
-
-
-def granted_in_vain(rows):
-    """The line of the first row that grants what mosquitto refuses by itself, and what that is."""
-    return next(((str(row.number), access) for access in ("write", "read") for row in rows
-                 if row.access in (access, "readwrite")
-                 and MosquittoRules.refuses(row.filter, access)), None)
-
-
-def faults_of_notes(noted, lists, asked_about, is_linted=False):
-    """Of lists by name, which both rules read alike, what is noted: of each of which mosquitto
-    decides otherwise, a case that is so; and of one that is linted that it allows the same, where
-    it does."""
-    cases, same, vain = [], [], {}
-    for line in noted.splitlines():
-        found, refused = OTHERWISE.fullmatch(line), IN_VAIN.fullmatch(line)
-        if refused:
-            vain[refused["file"]] = refused["line"], refused["access"]
-        elif found:
-            cases.append(found["file"])
-            yield from faults_of_case(found, lists[found["file"]])
-        elif is_linted and SAME in line:
-            same.append(line)
-        else:
-            yield f"noted: {line}"
-    for name, rows in lists.items():
-        differs = decided_otherwise(tuple(rows), asked_about)
-        if differs and name not in cases:
-            yield f"{name}: {differs} is decided otherwise, and not noted"
-        if vain.get(name) != granted_in_vain(rows):
-            yield f"{name}: {vain.get(name)} is noted as refused, not {granted_in_vain(rows)}"
-        limit = any(row.is_pattern for row in rows)
-        ids = " to client ids and user names without /, + and #" if limit else ""
-        is_same = name not in cases and name not in vain
-        if is_linted and same != ([f"{name}: {SAME}{ids}"] if is_same else []):
-            yield f"{name}: noted {same}"
 
 
 def whom(rows, user):

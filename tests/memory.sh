@@ -109,7 +109,7 @@ subscribes=300000
 echo "topic read t/#" > "$work/list"
 { echo '{"do":"connect","client":"c"}'; seq -f '{"do":"subscribe","client":"c","filter":"t/%.0f/#"}' "$subscribes"; } \
     > "$work/script"
-shown=$( (ulimit -v "$acl_room" && exec "$acl" reach "$work/list" --script "$work/script") 2>&1)
+shown=$( (ulimit -v "$acl_room" && exec "$acl" reach --rules own "$work/list" --script "$work/script") 2>&1)
 status=$?
 [ "$status" = 0 ] && [ "$shown" = "0 of $subscribes subscriptions can receive nothing" ]
 say $? "reach on $subscribes subscribes in $acl_room KiB: wanted status 0 and no such subscription, got status $status: $shown"
@@ -131,10 +131,12 @@ asks() { # STATUS LAST_LINE ARGUMENTS..: of mqroute-acl on these lists
     say $? "mqroute-acl ${*:3} in $acl_room KiB: wanted status $1 and the last line '$2', got status $status: $last"
 }
 
-asks 1 "1 difference" compare list longer
+clear="shorter: nothing to remark: by mqroute's own rules no line is faulty or odd, repeats another, denies nothing or is needless, \
+for any client id and user name a broker can have"
+asks 1 "1 difference" compare --rules own list longer
 asks 0 "may write: list:56  topic readwrite plant/hall-4/u2/#" why list c plant/hall-4/u2/x --user u2
 asks 0 "client c, user u9: plant/hall-7/+/# can be sent plant/hall-7/u9" reach list c "plant/hall-7/+/#" --user u9
-asks 0 "shorter: mosquitto 2.0 allows the same" lint shorter
+asks 0 "$clear" lint --rules own shorter
 
 echo "$passed passed, $failed failed"
 [ "$failed" = 0 ] && [ "$passed" != 0 ]

@@ -46,7 +46,7 @@ STATES = "$SYS/broker/connection/+/state"
 
 class OwnRules:
     """A mark stands for a level, and a `deny` line beats each other."""
-    words: list[str] = []
+    words = ["--rules", "own"]
 
     @staticmethod
     def refuses(_topic, _access):
@@ -73,7 +73,7 @@ class OwnRules:
 
 class MosquittoRules:
     """A client's own lines first, then the patterns, with its texts in the place of the marks."""
-    words = ["--rules", "mosquitto"]
+    words: list[str] = []
 
     @staticmethod
     def refuses(topic, access):

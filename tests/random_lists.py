@@ -6,11 +6,12 @@ import pathlib
 import random
 import subprocess
 
-from asked_lists import cases_of, faults_of_notes, faults_of_who, number_of
+from asked_lists import cases_of, faults_of_who, number_of
 from changed_plans import faults_of_plan
 from claimed_lists import faults_of_any, faults_of_claims
 from counted_publishes import faults_of_counts
-from plain_lists import accesses, allowed, deciding, filter_matches, rows_of
+from plain_lists import (
+    MosquittoRules, OwnRules, accesses, allowed, deciding, filter_matches, rows_of)
 
 PROGRAM = pathlib.Path(__file__).resolve().parent.parent / "bin/mqroute-acl"
 
@@ -94,11 +95,10 @@ def limit_of(name, rows):
             "client ids and user names without /, + and #\n")
 
 
-def faults_of_noted(rules, noted, lists, is_linted=False):
+def faults_of_noted(rules, noted, lists):
     """What is wrong with the notes on lists by name."""
-    if not rules.words:
-        yield from faults_of_notes(noted, lists, CASES, is_linted)
-    elif noted != "".join(limit_of(name, rows) for name, rows in lists.items()):
+    limits = "" if rules is OwnRules else "".join(limit_of(*each) for each in lists.items())
+    if noted != limits:
         yield f"noted: {noted}"
 
 
@@ -152,7 +152,7 @@ def faults_of_known_pairs(rules, folder):
         yield from faults_of_compare(rules, folder, old, new)
         shown = run(["compare", *rules.words, "old.acl", "new.acl"], folder)
         shown = shown.stdout.splitlines()[-1:]
-        whose = " by mosquitto's rules" if rules.words else ""
+        whose = " by mosquitto's rules" if rules is MosquittoRules else ""
         if shown != [f"{count} differences{whose}"]:
             yield f"compare: {shown}, not {count} differences"
 
@@ -314,8 +314,8 @@ def faults_of_script(rules, folder, chance, text):
               "invalid_lines": len(faulty), "first_invalid_line": faulty[0] if faulty else None}
     if done.returncode != (1 if unreached else 0) or counts != wanted:
         yield f"reach --script: status {done.returncode}, {counts}, not {wanted}\n{script}"
-    if not rules.words:
-        yield from faults_of_noted(rules, done.stderr, {"old.acl": rows})
+    if done.stderr:
+        yield f"reach --script: noted: {done.stderr}"
     found = [(each["line"], each["client"], each["user"], each["filter"]) for each in shown]
     if found != unreached or any(each["file"] != "s.jsonl" for each in shown):
         yield f"reach --script: {shown}, not {unreached}\n{script}"
@@ -333,7 +333,7 @@ def faults_of_needless(rules, folder, lines):
             or any(each["kind"] not in kinds for each in counted)):
         yield f"lint: status {done.returncode}: {done.stdout}{done.stderr}"
     rows = rows_of("\n".join(lines))
-    yield from faults_of_noted(rules, done.stderr, {"old.acl": rows}, is_linted=True)
+    yield from faults_of_noted(rules, done.stderr, {"old.acl": rows})
     if bool([each for each in shown if each["kind"] == "empty"]) != (not rows):
         yield f"lint: {lines} allow something, or nothing"
     of_kind = {kind: {each["line"]: each["other"] for each in shown if each["kind"] == kind}
@@ -388,7 +388,7 @@ def faults_of_random(rules, folder, count):
                           rows_of(old), CASES),
             faults_of_counts(rules, run, folder, chance, TOPICS, random_filter(chance, True),
                              [rows_of(old), rows_of(new)], CASES))
-        if not rules.words:
+        if rules is OwnRules:
             faults = itertools.chain(
                 faults, faults_of_plan(run, folder, chance, rows_of(old), rows_of(new), CASES))
         for fault in faults:

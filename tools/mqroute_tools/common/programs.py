@@ -13,14 +13,19 @@ HERE = Path(__file__).resolve()
 BUILT, INSTALLED = HERE.parents[3] / "bin", HERE.parents[4] / "bin"
 
 
-def find_program(variable: str, name: str) -> str:
+def existing_program(variable: str, name: str) -> str | None:
     """The program that an environment variable names, or the one that stands in the same clone or
-    installation, or the one of this name on the PATH."""
+    installation, or the one of this name on the PATH; None where there is none of these."""
     named = os.environ.get(variable)
     if named:
         return named
     beside = (str(folder / name) for folder in (BUILT, INSTALLED))
-    return next((path for path in beside if os.access(path, os.X_OK)), shutil.which(name) or name)
+    return next((path for path in beside if os.access(path, os.X_OK)), shutil.which(name))
+
+
+def find_program(variable: str, name: str) -> str:
+    """The same; the name alone where there is none."""
+    return existing_program(variable, name) or name
 
 
 def on_one_line(said: bytes) -> str:

@@ -1,23 +1,49 @@
-"""The program mqroute as an oracle, which answers commands and whole scripts."""
+"""The program mqroute as an oracle, which answers commands and whole scripts; the plain reader
+where there is no program."""
 import io
 import json
 import subprocess
 import tempfile
-from collections.abc import Iterable, Iterator
+import warnings
+from collections.abc import Callable, Iterable, Iterator
 from pathlib import Path
 from typing import IO
 
 from ..common.exit_status import Fault
-from ..common.programs import find_program, on_one_line
+from ..common.programs import existing_program, find_program, on_one_line
+from ..plain.reader import Reader
+from ..plain.world import FaultyList
 from .output import Answer, Block, Command, blocks_of
 
-
-RULES = ("own", "mosquitto")  # of access lists
 PIECE = 1 << 20
+LINES = 100_000  # on which tests/test_plain.py compares both
+UNPROVED = ("answers by the plain reader, unproved, since there is no mqroute; the proved program "
+            f"agrees with it on {LINES:,} lines in CI")
 
 
 class OracleFault(Exception):
     """The program is not there, or it ended with another status than 0 and 1."""
+
+
+class Unproved(UserWarning):
+    """The plain reader answers."""
+
+
+def warn(text: str) -> None:
+    warnings.warn(text, Unproved, stacklevel=4)
+
+
+class PlainNote:
+    """What is said once of answers that the plain reader gives."""
+    is_said = False
+
+    def say(self, note: Callable[[str], None]) -> None:
+        if not self.is_said:
+            self.is_said = True
+            note(UNPROVED)
+
+
+plain_reader = PlainNote()
 
 
 def found_program() -> str:
@@ -97,30 +123,65 @@ class Conversation:
         return shown
 
 
+class PlainConversation:
+    """The plain reader in the program's place."""
+
+    def __init__(self, reader: Reader) -> None:
+        self.reader = reader
+
+    def block(self, line: str) -> Block:
+        [block] = blocks_in(self.reader.answer(line.removesuffix("\n").encode()))
+        return block
+
+    def end(self) -> str:
+        return ""
+
+
+def blocks_in(text: bytes) -> Iterator[Block]:
+    return blocks_of(io.StringIO(text.decode(), newline="\n"), "the answer")
+
+
 class Oracle:
-    """Answers commands one by one, in a world that lasts until `close`; and whole scripts, each in
-    a world of its own.
+    """Answers commands one by one, in a world that lasts until `reset` or `close`; and whole
+    scripts, each in a world of its own.
 
     `acl` is the text of an access list; without one everything is allowed. The limits and the
-    rules of access lists, "own" or "mosquitto", are those of the program's options.
+    rules of access lists, "own" or "mosquitto", are those of the program's options. Where there is
+    no program, or with `plain=True`, the plain reader answers.
     """
 
     def __init__(self, acl: str | None = None, max_retained: int | None = None,
                  max_queued: int | None = None, program: str | None = None,
-                 rules: str | None = None) -> None:
-        self.words = [program or found_program()]
-        if rules is not None:
-            self.words.append(f"--rules={rules}")
+                 rules: str | None = None, plain: bool = False,
+                 note: Callable[[str], None] = warn) -> None:
+        found = program or existing_program("MQROUTE", "mqroute")
+        self.is_plain = plain or found is None
+        self.told = acl, max_retained, max_queued, rules
+        self.conversation: Conversation | PlainConversation | None = None
+        self.folder: tempfile.TemporaryDirectory[str] | None = None
+        self.words = [] if found is None else [found, *self.arguments()]
+        if self.is_plain and not plain:
+            plain_reader.say(note)
+
+    def arguments(self) -> list[str]:
+        """Of the program."""
+        acl, max_retained, max_queued, rules = self.told
+        words = [] if rules is None else [f"--rules={rules}"]
         for name, limit in (("--max-retained", max_retained), ("--max-queued", max_queued)):
             if limit is not None:
-                self.words.append(f"{name}={limit}")
-        self.conversation: Conversation | None = None
-        self.folder: tempfile.TemporaryDirectory[str] | None = None
-        if acl is not None:
+                words.append(f"{name}={limit}")
+        if acl is not None and not self.is_plain:
             self.folder = tempfile.TemporaryDirectory(prefix="mqroute-")
             file = Path(self.folder.name, "acl")
             file.write_text(acl, encoding="utf-8", newline="")
-            self.words.append(f"--acl-file={file}")
+            words.append(f"--acl-file={file}")
+        return words
+
+    def reader(self) -> Reader:
+        try:
+            return Reader(*self.told)
+        except FaultyList as fault:
+            raise OracleFault(f"access list {fault}") from fault
 
     def __enter__(self) -> "Oracle":
         return self
@@ -128,10 +189,14 @@ class Oracle:
     def __exit__(self, *_: object) -> None:
         self.close()
 
-    def close(self) -> None:
+    def reset(self) -> None:
+        """The next command is the first again, of a world of its own."""
         if self.conversation is not None:
             self.conversation.end()
             self.conversation = None
+
+    def close(self) -> None:
+        self.reset()
         if self.folder is not None:
             self.folder.cleanup()
 
@@ -140,11 +205,12 @@ class Oracle:
         refusal.
 
         Their line is the number of commands so far. After OracleFault nothing more is answered
-        before `close`.
+        before `reset` or `close`.
         """
         if self.conversation is None:
             try:
-                self.conversation = Conversation(self.words)
+                self.conversation = (PlainConversation(self.reader()) if self.is_plain
+                                     else Conversation(self.words))
             except OSError as fault:
                 raise OracleFault(f"cannot run {self.words[0]}: {fault.strerror}") from fault
         return self.conversation.block(json.dumps(command) + "\n").answers()
@@ -157,6 +223,12 @@ class Oracle:
         """The same, as the lines that mqroute wrote."""
         lines = [json.dumps(command) + "\n" for command in commands]
         try:
-            return answers(self.words, "".join(lines).encode())
+            return self.script_blocks("".join(lines).encode())
         except Fault as fault:
             raise OracleFault(str(fault)) from fault
+
+    def script_blocks(self, script: bytes) -> list[Block]:
+        """The answers to a script as a file has it."""
+        if not self.is_plain:
+            return answers(self.words, script)
+        return list(blocks_in(b"".join(self.reader().answers(io.BytesIO(script)))))

@@ -5,12 +5,12 @@ CODES = {name: code for code, name in enumerate(NAMES, 1)}
 
 
 class Refused(Exception):
-    def __init__(self, name, acl_line=None):
+    def __init__(self, name: str, acl_line: int | None = None) -> None:
         super().__init__(name)
         self.name = name
         self.acl_line = acl_line
 
 
-def refuse_if(condition, name):
+def refuse_if(condition: bool, name: str) -> None:
     if condition:
         raise Refused(name)

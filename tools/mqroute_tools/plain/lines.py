@@ -1,5 +1,6 @@
 """The command that a line of a script says."""
 import json
+from typing import Any
 
 from .refusals import Refused, refuse_if
 
@@ -8,12 +9,12 @@ LONGEST_LINE = 1_048_576  # bytes
 DEEPEST = 127  # brackets in each other
 
 TEXT, FLAG = "text", "flag"
-FIELDS = {
+Kind = str | tuple[int, int]  # TEXT, FLAG, or the least and the greatest number
+FIELDS: dict[str, dict[str, Kind]] = {
     "connect": {"client": TEXT, "user": TEXT, "clean": FLAG, "session_expiry": (0, U32)},
     "disconnect": {"client": TEXT},
     "subscribe": {"client": TEXT, "filter": TEXT, "qos": (0, 2), "no_local": FLAG, "rap": FLAG,
-                  "handling": (0, 2),
-                  "id": (1, 268_435_455)},
+                  "handling": (0, 2), "id": (1, 268_435_455)},
     "unsubscribe": {"client": TEXT, "filter": TEXT},
     "publish": {"client": TEXT, "topic": TEXT, "payload": TEXT, "qos": (0, 2), "retain": FLAG,
                 "expiry": (0, U32)},
@@ -21,13 +22,13 @@ FIELDS = {
     "advance": {"seconds": (0, U64)},
     "stat": {},
 }
-ABSENT = {"clean": True, "session_expiry": 0, "qos": 0, "no_local": False, "rap": False,
-          "handling": 0, "payload": "",
-          "retain": False}
+ABSENT: dict[str, Any] = {
+    "clean": True, "session_expiry": 0, "qos": 0, "no_local": False, "rap": False, "handling": 0,
+    "payload": "", "retain": False}
 NEEDED = {"client", "filter", "topic", "seconds"}
 
 
-def depth(text):
+def depth(text: str) -> int:
     """How deep the brackets of a JSON text nest, those in its strings left out."""
     deepest = now = 0
     in_string = escaped = False
@@ -42,7 +43,7 @@ def depth(text):
     return deepest
 
 
-def number(text):
+def number(text: str) -> int | float:
     """A whole number from 0 to 2^64 - 1; any other is a float, and one beyond
     the floats is no JSON."""
     if text.isdigit() and len(text) <= 20 and int(text) <= U64:
@@ -53,11 +54,11 @@ def number(text):
     return value
 
 
-def no_constant(text):
+def no_constant(text: str) -> float:
     raise ValueError(f"{text} is no JSON")
 
 
-def json_of(line):
+def json_of(line: bytes) -> Any:
     try:
         text = line.decode()
         value = json.loads(text, parse_int=number, parse_float=number, parse_constant=no_constant)
@@ -68,15 +69,15 @@ def json_of(line):
     return value
 
 
-def is_kind(value, kind):
+def is_kind(value: Any, kind: Kind) -> bool:
     if kind == TEXT:
         return isinstance(value, str)
-    if kind == FLAG:
+    if isinstance(kind, str):
         return isinstance(value, bool)
     return type(value) is int and kind[0] <= value <= kind[1]
 
 
-def reading(line):
+def reading(line: bytes) -> tuple[str, dict[str, Any]] | None:
     """The command of a line, or none of a blank one."""
     refuse_if(len(line) > LONGEST_LINE, "LineTooLong")
     if not line.strip(b" \t\r"):
