@@ -10,8 +10,8 @@
 # compiles the tools' modules for PYTHON, where there is one (PYTHON= compiles none); uninstall takes all of it out again.
 # The parts of check, side by side: what takes longest comes first. Each is a file of tests/, but for check-tests, the tests of
 # that folder, and check-tools, those of the tools.
-CHECKS = tools costs.py edits.sh acl.py readme.py package.sh linted.sh tests program.py rows.sh acl_rows.py memory.sh unbuffered.py \
-    build.py links.py layers.py sources.py
+CHECKS = tools costs.py edits.sh acl.py readme.py package.sh linted.sh statements.py tests program.py rows.sh acl_rows.py memory.sh \
+    unbuffered.py build.py links.py layers.py sources.py
 
 .PHONY: all run check test package bench install uninstall mended programs $(CHECKS:%=check-%)
 
@@ -24,8 +24,8 @@ PYTHON ?= python3
 TOOLS = log_to_script who_loses why preview plan replay compare_log check search tools
 TOOL_NAMES = $(subst _,-,$(TOOLS:%=mqroute-%))
 TOOL_MODULES = $(patsubst tools/%,%,$(wildcard tools/mqroute_tools/*.py tools/mqroute_tools/*/*.py))
-# The brokers beside mosquitto on which scripts differ.
-BROKERS = ejabberd rabbitmq
+# The brokers beside mosquitto on which scripts differ, and what searches found on each.
+BROKERS = ejabberd rabbitmq found/mosquitto found/ejabberd found/rabbitmq
 COMPLETIONS = $(INSTALLED)/share/bash-completion/completions
 
 all:
@@ -84,7 +84,7 @@ install: programs
 	for module in $(TOOL_MODULES); do \
 	    install -D -m 644 tools/$$module $(INSTALLED)/lib/mqroute/$$module || exit 1; \
 	done
-	install -m 644 tools/mqroute.py $(INSTALLED)/lib/mqroute
+	install -m 644 tools/mqroute.py tools/mqroute_strategies.py $(INSTALLED)/lib/mqroute
 	install -m 755 $(TOOLS:%=tools/%.py) $(INSTALLED)/lib/mqroute
 	install -m 644 brokers/differences/*.* $(INSTALLED)/share/mqroute/differences
 	for broker in $(BROKERS); do \

@@ -9,7 +9,7 @@
 # Status: 0 nothing new differs; 1 something does; 2 something couldn't be run.
 set -u
 port=${PORT:-1883}
-corpus=${CORPUS:-/usr/share/mqroute/conformance}
+corpus=${CORPUS:-$(dirname "$(command -v mqroute-replay)")/../share/mqroute/conformance}
 known=${KNOWN:-known}
 out=${OUT:-mqroute-out}
 scripts=${SCRIPTS:-300} seed=${SEED:-1}
@@ -20,7 +20,7 @@ mkdir -p "$out" "$known/corpus" "$known/search"
 mqroute-replay --port "$port" --all "$corpus" --start "$1" --known "$known/corpus" \
     --save "$out/corpus" --junit "$out/corpus.xml"
 cases=$?
-mqroute-search --port "$port" --start "$1" --scripts "$scripts" --seed "$seed" --minutes 30 --known "$known/search" \
+mqroute-search --port "$port" --start "$1" --standard --scripts "$scripts" --seed "$seed" --minutes 30 --known "$known/search" \
     --save "$out/search" --junit "$out/search.xml"
 found=$?
 [ $cases -gt $found ] || cases=$found
