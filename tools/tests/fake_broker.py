@@ -22,8 +22,7 @@ class Fake:
     def can_run(self, script: Script) -> bool:
         return True
 
-    def run(self, script: Script, blocks: list, until: float = 0,
-            patience: float | None = None) -> list[LineDifference]:
+    def run(self, script: Script, blocks: list, until: float = 0) -> list[LineDifference]:
         """What a will does is compared where its connection ends."""
         self.scripts.append(script)
         sessions, found, answers = Sessions(), [], self.oracle.blocks(self.taken(script))

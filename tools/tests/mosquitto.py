@@ -1,4 +1,5 @@
 """A mosquitto of a test's own, on loopback; and a Python that has paho-mqtt to talk to it."""
+import contextlib
 import os
 import shutil
 import socket
@@ -6,10 +7,19 @@ import subprocess
 import sys
 import time
 import unittest
+from collections.abc import Iterator
 from pathlib import Path
 
 PYTHON = "/usr/bin/python3"  # which has Debian's python3-paho-mqtt
 MOSQUITTO = os.environ.get("MOSQUITTO") or shutil.which("mosquitto") or "/usr/sbin/mosquitto"
+
+
+def quiet_ports() -> Iterator[int]:
+    """Free ones that no connection is given by chance, for many brokers side by side."""
+    for port in range(20_000 + os.getpid() % 5_000, 32_000):
+        with socket.socket() as free, contextlib.suppress(OSError):
+            free.bind(("127.0.0.1", port))
+            yield port
 
 
 def has_paho(python: str) -> bool:
@@ -34,12 +44,24 @@ def start(case: unittest.TestCase, conf: Path, port: int) -> int:
     broker = subprocess.Popen([MOSQUITTO, "-c", conf], stderr=subprocess.DEVNULL)
     case.addCleanup(broker.wait)
     case.addCleanup(broker.kill)
-    for _ in range(100):
+    wait_for(port, broker)
+    return broker.pid
+
+
+class NotStarted(AssertionError):
+    """A broker that ended, or doesn't listen."""
+
+
+def wait_for(port: int, broker: subprocess.Popen) -> None:
+    """Until the broker listens there, half a minute at most."""
+    for _ in range(600):
+        if broker.poll() is not None:
+            break
         with socket.socket() as probe:
             if probe.connect_ex(("127.0.0.1", port)) == 0:
-                return broker.pid
+                return
         time.sleep(0.05)
-    raise AssertionError("the broker doesn't start")
+    raise NotStarted("the broker doesn't start")
 
 
 def refuses(case: unittest.TestCase, conf: Path) -> bool:

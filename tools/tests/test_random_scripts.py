@@ -1,19 +1,41 @@
 """The random scripts, how they are made smaller, and which differences are of one kind."""
 import json
 import unittest
+from collections.abc import Iterator
 
 from worked import PROGRAM, wants_program
 from mqroute import Oracle
 from mqroute_tools.script.fresh_names import fresh, with_names
 from mqroute_tools.search.difference_kinds import Difference, Kind, separate, uses
 from mqroute_tools.search.exercised import Exercised
-from mqroute_tools.search.parts import ACCESS, CLOCK, MARKS, PARTS, Use
+from mqroute_tools.search.parts import ACCESS, CLOCK, MARKS, ODD, PARTS, Use
 from mqroute_tools.search.random_scripts import Maker
 from mqroute_tools.search.shrinking import connected, shrink
 
 A = {"do": "connect", "client": "a"}
 X = {"do": "subscribe", "client": "a", "filter": "x"}
 PUBLISH = {"do": "publish", "client": "a", "topic": "x", "payload": "1"}
+
+
+def seen(scene: list) -> Iterator[str]:
+    """What of big and odd values it has."""
+    topics = [command["topic"] for command in scene if "topic" in command]
+    payloads = [command.get("payload", "") for command in scene]
+    joins = [(command["client"], command["filter"]) for command in scene
+             if command["do"] == "subscribe"]
+    shares = {name for _, name in joins if name.startswith("$share/")}
+    has = {"long payload": any(len(text.encode()) > 65_535 for text in payloads),
+           "U+0000": any("\0" in text for text in payloads),
+           "long topic": any(len(topic) > 32_767 for topic in topics),
+           "20 levels": any(topic.count("/") == 19 for topic in topics),
+           "200 levels": any(topic.count("/") == 199 for topic in topics),
+           "beyond ASCII": any(not topic.isascii() for topic in topics),
+           "11 wait": any(command["do"] == "disconnect" for command in scene) and len(topics) > 10,
+           "5 overlap": len({name for _, name in joins if set("+#") & set(name)}) >= 4,
+           "longest interval": any(one.get("expiry") == 4_294_967_295 for one in scene),
+           "group of three": len({client for client, name in joins if name in shares}) == 3,
+           "two shares": len(shares) == 2, "500 messages": len(topics) > 500}
+    yield from (what for what, is_so in has.items() if is_so)
 
 
 class Scripts(unittest.TestCase):
@@ -40,9 +62,22 @@ class Scripts(unittest.TestCase):
         self.assertEqual(Maker(1, Use()).script(3), first[2])
         self.assertNotEqual(Maker(2, Use()).script(3), first[2])
 
+    def test_odd_scenes_stand_behind(self):
+        """Each of them in 270 scripts; the script before is the same without."""
+        plain, odd = Maker(1, Use().without([ODD])), Maker(1, Use())
+        found: set[str] = set()
+        for number in range(1, 271):
+            before, script = plain.script(number), odd.script(number)
+            self.assertEqual(script[:len(before)], before)
+            found.update(seen(script[len(before):]))
+        self.assertEqual(found, {
+            "long payload", "U+0000", "long topic", "20 levels", "200 levels", "beyond ASCII",
+            "11 wait", "5 overlap", "longest interval", "group of three", "two shares",
+            "500 messages"})
+
     @wants_program
     def test_every_line_is_accepted(self):
-        maker = Maker(5, Use(frozenset([*PARTS, CLOCK])))
+        maker = Maker(5, Use(frozenset([*PARTS, CLOCK, ODD])))
         with Oracle(program=str(PROGRAM)) as oracle:
             for number in range(60):
                 for answers in oracle.run(fresh(maker.script(number), "Z9Z")):
@@ -138,6 +173,23 @@ class Kinds(unittest.TestCase):
         self.assertEqual(self.whats("1 copy", "3 copies"), ["publish: more"])
         self.assertEqual(
             self.whats('x "1", x "2"', 'x "2", x "1"', head="   a order"), ["publish: order"])
+
+    def test_a_copy_less_shows_as_an_identifier_less(self):
+        less = Kind("publish: identifiers", frozenset("xy"))
+        for what, used, wanted in (("publish: missing", "x", True), ("publish: more", "x", True),
+                                   ("publish: missing", "z", False), ("will: more", "x", False),
+                                   ("publish: retain", "x", False)):
+            self.assertEqual(Kind(what, frozenset(used)).covers(less), wanted, what)
+        self.assertFalse(less.covers(Kind("publish: missing", frozenset("xy"))))
+
+    def test_one_number_of_one_copy(self):
+        """No copy is missing where an identifier or the QoS is less."""
+        full = f'qos 1, retain false, payload "{"p" * 60}" and 69940 characters more, ids [3, 7]'
+        for theirs, wanted in ((full.replace(", 7", ""), "identifiers"),
+                               (full.replace("qos 1", "qos 0"), "QoS"),
+                               (full.replace("69940", "65475"), "payload"),
+                               (full.replace("qos 1", "qos 0").replace(", 7", ""), "missing")):
+            self.assertEqual(self.whats(full, theirs), [f"publish: {wanted}"])
 
     def test_reasons(self):
         nobody = "   reason: mqroute 0, broker 16"

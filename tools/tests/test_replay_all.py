@@ -1,8 +1,11 @@
 """Cases in folders: what is read of them, how they are judged and shown; and on a mosquitto."""
 import json
 import os
+import socket
 import subprocess
 import tempfile
+import threading
+import time
 import unittest
 import xml.etree.ElementTree
 from pathlib import Path
@@ -16,6 +19,9 @@ from mqroute_tools.common.test_results import Outcome, Result, junit, tap_lines
 from mqroute_tools.live.cases import read_sections
 from mqroute_tools.live.group_members import with_their_members
 from mqroute_tools.live.broker_diff import Copy
+from mqroute_tools.live.line_difference import LineDifference
+from mqroute_tools.live.options import BrokerOptions
+from mqroute_tools.live.started_broker import wait_for_silence
 from mqroute_tools.script.sessions import Sessions
 
 A = {"do": "connect", "client": "a"}
@@ -62,6 +68,15 @@ class Reading(unittest.TestCase):
         self.assertEqual(own.about(), "one/own: Own ones. (3.8.3.1)")
         self.assertEqual((right.acl, right.has_lists(), own.has_lists()),
                          ("topic #\n", True, False))
+
+    def test_free(self):
+        """Some lines are to brokers that close the connection, and no more."""
+        write_case(self.folder, "one", "right", RIGHT, free={"2": "3.3.4", "3": "closed: 1.5.4"})
+        [section] = read_sections(Path(self.folder))
+        [case] = section.cases
+        found = [case.is_free(LineDifference(line, "publish", [], ended))
+                 for line in (1, 2, 3) for ended in ("", "closed")]
+        self.assertEqual(found, [False, False, True, True, False, True])
 
     def test_faults(self):
         write_case(self.folder, "one", "right", RIGHT)
@@ -119,6 +134,19 @@ class Formats(unittest.TestCase):
                  for line in tap_lines(number, one)]
         self.assertEqual(found, ["ok 1 - s/good", "not ok 2 - s/bad", "# a", "# \\u{1}<b>",
                                  "ok 3 - t/out # SKIP why", "not ok 4 - t/no", "# gone"])
+
+
+class Ended(unittest.TestCase):
+    def test_what_the_shell_began_is_waited_for(self):
+        """The next broker is to begin where this one listened, which goes on for a moment."""
+        with socket.create_server(("127.0.0.1", 0)) as listening:
+            where = BrokerOptions(*listening.getsockname())
+            began = time.monotonic()
+            threading.Timer(0.5, lambda: (listening.shutdown(socket.SHUT_RDWR),
+                                          listening.close())).start()
+            wait_for_silence(where)
+            self.assertGreaterEqual(time.monotonic() - began, 0.4)
+        wait_for_silence(where)  # and here nothing is
 
 
 @wants_paho

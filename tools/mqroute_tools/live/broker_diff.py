@@ -25,11 +25,12 @@ class Copy(NamedTuple):
     ids: list[int]
     expiry: int | None
     group: str = ""  # the shared subscription that it is for; the broker doesn't say it
+    late: int = 0  # seconds that the broker's may have lost of the interval beside the script's
 
     def resembles(self, other: "Copy") -> bool:
         """Whether all is the same but for the group, and a little of the interval."""
-        alike = self._replace(expiry=None, group="") == other._replace(expiry=None, group="")
-        return alike and are_near(self.expiry, other.expiry)
+        mine, theirs = (copy._replace(expiry=None, group="", late=0) for copy in (self, other))
+        return mine == theirs and are_near(self.expiry, other.expiry, self.late)
 
     def __str__(self) -> str:
         return str(together([self]))
@@ -42,10 +43,11 @@ def shown(payload: str) -> str:
     return f"{json.dumps(payload[:LONGEST_SHOWN])} and {counted(more, 'characters more')}"
 
 
-def are_near(expiry: int | None, other: int | None) -> bool:
+def are_near(expiry: int | None, other: int | None, late: int = 0) -> bool:
+    """Whether the other one is the same, but for a little, and for what it may have lost."""
     if expiry is None or other is None:
         return expiry == other
-    return abs(expiry - other) <= EXPIRY_SLACK
+    return expiry - late - EXPIRY_SLACK <= other <= expiry + EXPIRY_SLACK
 
 
 @dataclass
@@ -56,6 +58,7 @@ class Joined:
     ids: list[int] = field(default_factory=list)
     payloads: set[str] = field(default_factory=set)
     expiry: int | None = None
+    late: int = 0
     copies: list[Copy] = field(default_factory=list)
 
     def add(self, copy: Copy) -> None:
@@ -64,6 +67,7 @@ class Joined:
         self.ids = sorted(self.ids + copy.ids)
         self.payloads.add(copy.payload)
         self.expiry = copy.expiry
+        self.late = max(self.late, copy.late)
         self.copies.append(copy)
 
     @property
@@ -72,7 +76,7 @@ class Joined:
 
     def agrees(self, other: "Joined") -> bool:
         mine = (self.qos, self.retain, self.ids, self.payloads)
-        return (are_near(self.expiry, other.expiry)
+        return (are_near(self.expiry, other.expiry, self.late)
                 and mine == (other.qos, other.retain, other.ids, other.payloads))
 
     def has_same_groups(self, other: "Joined") -> bool:

@@ -10,16 +10,20 @@ from collections import Counter
 from collections.abc import Callable
 
 from ..common.exit_status import Fault
+from ..script.fresh_names import marks_of
 from ..script.output import Block, Command
 from ..script.sessions import Sessions
 from . import packets
 from .broker_diff import (
     Acknowledged, Copy, copies_of, different_copies, different_order, different_reasons)
+from .by_standard import ByStandard
 from .group_members import with_their_members
+from .lateness import Lateness
 from .offer import Offer
 from .options import BrokerOptions
 from .paho_client import Connection
 from .receivers import Receivers
+from .refused_lines import RefusedLines, is_refused
 from .run_ends import NEVER, RunEnds, TimeIsUp
 from .sockets import Sockets
 from .wills import Wills
@@ -33,6 +37,9 @@ MOST_ROUNDS = 20  # in each of which more comes, before that may be too long
 ACL_PAUSE = 0.3  # seconds that a broker gets to read an access list
 LONGEST_PAUSE = 86_400  # seconds that an `advance` may take, in real time
 WILL_PAUSE = 0.1  # and to see that a connection is gone
+# Copies that are left out, of topics that the script didn't publish.
+SYSTEM = "copies of topics under $SYS/, which the broker publishes itself, are left out"
+EARLIER = "copies of what an earlier script left on the broker are left out"
 ALL_ALLOWED = "pattern readwrite #\npattern readwrite $SYS/#\n"  # in place of no access list
 
 
@@ -45,11 +52,16 @@ class Replay:
         self.concerned: set[str] | None = None  # whom the last command may bring something
         self.heard: dict[str, Connection] = {}  # who was sent something since the last line
         self.sessions = Sessions()
+        self.standard = ByStandard(self.sessions)
         self.offer = Offer(protocol=options.protocol)
+        self.lateness = Lateness()
+        self.topics: set[str] = set()  # that the script has published so far
+        self.marks: set[str] = set()  # of its names
         self.remarks: Counter[str] = Counter()  # what to say at the end, with {} for the number
-        self.sys_topics: set[str] = set()  # under $SYS/, that the script publishes
         self.wills = Wills()
-        self.any_member = options.any_member
+        self.refused = RefusedLines(options)
+        self.not_sent: Counter[str] = Counter()  # why lines aren't, that mqroute refuses
+        self.any_member = options.any_member or options.standard
         self.line = 0
         self.is_accepted = False  # whether the broker took the first connection
 
@@ -118,6 +130,7 @@ class Replay:
             raise Fault(f"line {self.line}: advance waits in real time, and {seconds} seconds "
                         f"are over a day")
         time.sleep(min(seconds + 0.1, max(0, self.until - time.monotonic())))
+        self.lateness.passed += seconds
         self.look_at_clock()
 
     def do(self, command: Command) -> Acknowledged:
@@ -213,33 +226,65 @@ class Replay:
         self.line = number
         if number in self.wills.published:
             return []
-        if command["do"] == "publish" and command["topic"].startswith("$SYS/"):
-            self.sys_topics.add(command["topic"])
+        message, answer = self.wills.due.get(number, (command, block))
+        self.marks |= marks_of(command.get("client", ""))
+        if message["do"] == "publish":
+            self.lateness.publish(message)
+            self.topics.add(message["topic"])
+        if is_refused(block):
+            return self.refused_answer(command, block)
         present = self.sessions.present(command) if command["do"] == "connect" else False
         said = self.do(command)
+        if self.options.standard and command["do"] == "connect":
+            self.standard.taken_over(command, bool(said.present))
         self.quiet()
         if not block.refused:
             self.sessions.follow(command)
-        message = command
-        if number in self.wills.due:
-            message, block = self.wills.due[number]
-        theirs, ours = self.received(), copies_of(block)
-        if self.any_member and message["do"] == "publish":
-            ours = with_their_members(ours, theirs, message, self.sessions)
-        found = different_copies(ours, theirs, self.sessions)
+        theirs = self.received()
+        ours = self.lateness.fitting(copies_of(answer), theirs)
+        if self.options.standard:
+            ours, theirs, found = self.by_standard(command, message, present, ours, theirs)
+        elif self.any_member and message["do"] == "publish":
+            found, ours = [], with_their_members(ours, theirs, message, self.sessions)
+        else:
+            found = []
+        found += different_copies(ours, theirs, self.sessions)
         if command["do"] == "connect":
             found += different_order(ours, theirs)
         return found + different_reasons(command, block, said, present, self.offer.greatest_qos)
+
+    def by_standard(self, command: Command, message: Command, present: bool, ours: list[Copy],
+                    theirs: list[Copy]) -> tuple[list[Copy], list[Copy], list[str]]:
+        """The copies that are to be compared, and what is due by the standard and didn't come."""
+        if message["do"] == "publish":
+            return *self.standard.published(self.line, message, ours, theirs), []
+        if command["do"] == "connect":
+            return self.standard.connected(command["client"], present, ours, theirs)
+        return self.standard.timed(ours), self.standard.timed(theirs), []
+
+    def refused_answer(self, command: Command, block: Block) -> list[str]:
+        """Runs a line that the broker has to refuse, and by which nobody may be sent anything."""
+        self.concerned = None
+        found = self.refused.ask(self.line, command, block)
+        self.quiet()
+        return found + different_copies([], self.received(), self.sessions)
 
     def received(self) -> list[Copy]:
         """What has come, but for the topics that the broker publishes itself."""
         found = [copy for connection in self.heard.values() for copy in connection.copies()]
         self.heard.clear()
-        ours = [c for c in found if not c.topic.startswith("$SYS/") or c.topic in self.sys_topics]
-        if len(ours) < len(found):
-            what = "copies of topics under $SYS/, which the broker publishes itself, are left out"
-            self.remarks["{} " + what] += len(found) - len(ours)
-        return ours
+        found += self.refused.copies()
+        return [copy for copy in found if not self.is_left_out(copy.topic)]
+
+    def is_left_out(self, topic: str) -> bool:
+        """Whether a copy has nothing to do with the script; that it came is said at the end."""
+        if topic in self.topics:
+            return False
+        marks = marks_of(topic)
+        why = SYSTEM if topic.startswith("$SYS/") else EARLIER if marks - self.marks else ""
+        if why:
+            self.remarks["{} " + why] += 1
+        return bool(why)
 
     def end(self) -> None:
         for connection in self.live.values():
@@ -247,4 +292,6 @@ class Replay:
                 if connection.client.socket():
                     connection.client.disconnect()
                     connection.write()
+        self.remarks += self.standard.remarks
+        self.refused.close()
         self.sockets.close()

@@ -10,9 +10,13 @@ from ..common.files import at
 from ..common.texts import escaped
 from ..script.commands import faults
 from ..script.output import Block, Command, blocks
+from .line_difference import LineDifference
+from .packet_steps import read_steps
 from .text_files import read_utf8
 
 INDEX = "cases.json"  # of a section
+PACKETS = ".packets"
+TO_CLOSE = "closed: "  # how a reason begins for which a connection may be closed, and no more
 
 
 @dataclass(frozen=True)
@@ -27,10 +31,16 @@ class Case:
     sections: tuple[str, ...] = ()  # of the standard
     any_member: bool = False
     free: dict[int, str] = field(default_factory=dict)  # by line: why the answer is
+    is_of_packets: bool = False  # steps are its script, and say themselves what is expected
 
     @property
     def path(self) -> str:
         return f"{self.section}/{self.name}"
+
+    def is_free(self, one: LineDifference) -> bool:
+        """Whether the standard leaves the line open; some alone to brokers that close."""
+        why = self.free.get(one.line, "")
+        return bool(why) and (one.ended == "closed" or not why.startswith(TO_CLOSE))
 
     def has_lists(self) -> bool:
         return self.acl is not None or any(command["do"] == "acl" for command in self.script)
@@ -111,13 +121,21 @@ def read_case(file: Path, section: str, about: dict[str, Any]) -> Case:
                 bool(about.get("any_member")), free_lines(file, about))
 
 
+def read_packets(file: Path, section: str, about: dict[str, Any]) -> Case:
+    return Case(section, file.stem, read_steps(file), [], says=about.get("says", ""),
+                sections=tuple(map(str, about.get("sections", []))),
+                free=free_lines(file, about), is_of_packets=True)
+
+
 def read_section(folder: Path) -> Section:
-    index, files = read_index(folder), sorted(folder.glob("*.jsonl"))
+    index = read_index(folder)
+    files, of_packets = sorted(folder.glob("*.jsonl")), sorted(folder.glob(f"*{PACKETS}"))
     about = index.get("cases", {})
     for name in about:
-        if folder / f"{name}.jsonl" not in files:
+        if not {folder / f"{name}.jsonl", folder / f"{name}{PACKETS}"} & {*files, *of_packets}:
             raise Fault(f"{folder / INDEX}: there is no {name}.jsonl")
     cases = [read_case(file, folder.name, about.get(file.stem, {})) for file in files]
+    cases += [read_packets(file, folder.name, about.get(file.stem, {})) for file in of_packets]
     return Section(folder.name, str(index.get("title", folder.name)), cases)
 
 

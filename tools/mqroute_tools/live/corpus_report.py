@@ -1,5 +1,6 @@
 """What a run of many cases says: those that differ, and a table by section."""
 from collections import Counter
+from collections.abc import Iterator
 from typing import Any
 
 from ..common.messages import counted
@@ -8,6 +9,7 @@ from ..common.test_results import Outcome as Tested, Result, tap_lines
 from ..common.texts import json_text
 from .cases import Section
 from .corpus_run import CaseResult, Outcome
+from .refused_lines import shown as reasons_shown
 
 SHOWN = (Outcome.AGREES, Outcome.FREE, Outcome.KNOWN, Outcome.DIFFERS, Outcome.LEFT_OUT)
 TESTED = {Outcome.AGREES: Tested.PASSED, Outcome.FREE: Tested.PASSED, Outcome.KNOWN: Tested.SKIPPED,
@@ -23,7 +25,7 @@ def as_object(result: CaseResult) -> dict[str, Any]:
     case = result.case
     return {"section": case.section, "case": case.name, "outcome": result.outcome.value,
             "why": result.why, "says": case.says, "sections": list(case.sections),
-            "seconds": round(result.seconds, 3),
+            "seconds": round(result.seconds, 3), "not_sent": dict(result.not_sent),
             "differences": [{"line": one.line, "texts": [text.strip() for text in one.texts]}
                             for one in result.differences]}
 
@@ -35,10 +37,19 @@ def as_test(result: CaseResult) -> Result:
                   texts.get(result.outcome, result.why), result.seconds)
 
 
+def as_tests(results: list[CaseResult]) -> Iterator[Result]:
+    """Each case; behind it, as skipped, what of it wasn't sent."""
+    for result in results:
+        yield as_test(result)
+        if result.not_sent and result.outcome is not Outcome.LEFT_OUT:
+            yield Result(result.case.section, f"{result.case.name}: lines not sent",
+                         Tested.SKIPPED, reasons_shown(result.not_sent))
+
+
 def as_tap(results: list[CaseResult]) -> list[str]:
-    lines = [line for number, result in enumerate(results, 1)
-             for line in tap_lines(number, as_test(result))]
-    return ["TAP version 13", f"1..{len(results)}", *lines]
+    tests = list(as_tests(results))
+    lines = [line for number, test in enumerate(tests, 1) for line in tap_lines(number, test)]
+    return ["TAP version 13", f"1..{len(tests)}", *lines]
 
 
 def counts(results: list[CaseResult]) -> list[str]:
@@ -60,8 +71,11 @@ def notes(results: list[CaseResult]) -> list[str]:
     left_out = Counter(result.why for result in results if result.outcome is Outcome.LEFT_OUT)
     gone = [f"{result.case.path}: {result.why}" for result in results
             if result.why and result.outcome is not Outcome.LEFT_OUT]
-    return [f"{counted(number, 'cases')} left out: {why}"
-            for why, number in left_out.items()] + gone
+    not_sent: Counter[str] = Counter()
+    for result in results:
+        not_sent += result.not_sent if result.outcome is not Outcome.LEFT_OUT else Counter()
+    return [f"{counted(number, 'cases')} left out: {why}" for why, number in left_out.items()] \
+        + gone + ([reasons_shown(not_sent)] if not_sent else [])
 
 
 def as_json(results: list[CaseResult]) -> str:

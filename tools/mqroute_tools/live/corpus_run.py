@@ -1,8 +1,9 @@
 """Runs cases on a broker: all on one, each with names of its own, or each on a fresh one."""
 import contextlib
 import time
+from collections import Counter
 from collections.abc import Iterable, Iterator
-from dataclasses import dataclass, field
+from dataclasses import dataclass, field, replace
 from enum import Enum
 from pathlib import Path
 
@@ -18,6 +19,9 @@ from .cases import Case
 from .line_difference import LineDifference
 from .live_broker import LiveBroker
 from .options import BrokerOptions
+from .packet_run import PacketRun
+from .packet_steps import as_commands, marked
+from .refused_lines import not_sent
 from .script_fitting import OLD_SESSION, fitted_commands
 from .started_broker import started
 from .stored_diff import are_near, read_differences, report
@@ -42,6 +46,7 @@ class CaseResult:
     differences: list[LineDifference] = field(default_factory=list)
     script: list[Command] = field(default_factory=list)  # that was run
     seconds: float = 0
+    not_sent: Counter[str] = field(default_factory=Counter)  # of lines, by why
 
     def lines(self) -> list[str]:
         """What differs, as replay prints it."""
@@ -56,15 +61,22 @@ class CorpusRun:
     known: list[Path] = field(default_factory=list)  # folders
     marks: Marks = field(default_factory=Marks)
     held: list[str] = field(default_factory=list)  # what the broker retained at first
+    broker: LiveBroker | None = None  # on which all are run
 
     def results(self, cases: Iterable[Case]) -> Iterator[CaseResult]:
-        broker = None if self.start else LiveBroker(self.options)
+        broker = self.broker = None if self.start else LiveBroker(self.options)
         self.held = broker.held if broker else []
         for case in cases:
             began = time.monotonic()
             result = self.result(case, broker)
-            yield CaseResult(case, result.outcome, result.why, result.differences, result.script,
-                             time.monotonic() - began)
+            yield replace(result, seconds=time.monotonic() - began)
+
+    def remarks(self) -> Counter[str]:
+        """What to say at the end, behind a last try to remove what cases have left."""
+        if self.broker is None:
+            return Counter()
+        self.broker.leave()
+        return self.broker.remarks
 
     def result(self, case: Case, broker: LiveBroker | None) -> CaseResult:
         why = self.why_left_out(case)
@@ -87,15 +99,36 @@ class CorpusRun:
         return ""
 
     def on(self, broker: LiveBroker, case: Case) -> CaseResult:
+        if case.is_of_packets:
+            return self.of_packets(broker, case)
         script, lacking = fitted_commands(case.script, broker.offer)
         left_out = sorted(what for what in lacking if not what.startswith(LOWERED))
         if left_out:
             return CaseResult(case, Outcome.LEFT_OUT,
                               f"{broker.offer.without()} {', '.join(left_out)}")
         found = self.compared(broker, case, script, bool(lacking))
-        return self.judged(case, script, found)
+        return replace(self.judged(case, script, found),
+                       not_sent=not_sent(case.script, case.expected, self.options))
 
     # -- running
+
+    def of_packets(self, broker: LiveBroker, case: Case) -> CaseResult:
+        commands = as_commands(case.script)
+        lacking = sorted({broker.offer.lacks(command) for command in commands} - {""})
+        if lacking or not broker.offer.is_5 or self.options.websockets is not None:
+            what = ", ".join(lacking) or "packets of MQTT 5 on TCP"
+            return CaseResult(case, Outcome.LEFT_OUT, f"{broker.offer.without()} {what}")
+        mark = "" if self.start else self.marks.next()
+        steps = [marked(step, mark) for step in case.script] if mark else case.script
+        run = PacketRun(self.options)
+        try:
+            found = list(run.differences(steps))
+        finally:
+            run.end()
+            broker.clean(as_commands(steps))
+        return self.judged(case, case.script, [replace(
+            one, texts=[text.replace(mark, "") if mark else text for text in one.texts])
+            for one in found])
 
     def compared(self, broker: LiveBroker, case: Case, script: list[Command],
                  is_fitted: bool) -> list[LineDifference]:
@@ -147,7 +180,7 @@ class CorpusRun:
         if gone:
             lines = ", ".join(str(one.line) for one in gone)
             why = f"known, and no longer seen as stored, at line {lines}"
-        counted = [one for one in found if one.line not in case.free]
+        counted = [one for one in found if not case.is_free(one)]
         new = [one for one in counted if not any(is_as(one, it) for it in stored)]
         if new:
             return CaseResult(case, Outcome.DIFFERS, why, found, script)

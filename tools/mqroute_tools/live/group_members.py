@@ -9,13 +9,21 @@ from .broker_diff import Copy, different_copies
 MOST = 1000  # choices that are tried
 
 
+def copy_of_member(message: Command, client: str, group: str, sessions: Sessions) -> Copy:
+    """The copy of a group's message as this member would get it."""
+    subscription = sessions.filters[client][group]
+    return Copy(client, message["topic"],
+                min(message.get("qos", 0), subscription.get("qos", 0)),
+                bool(message.get("retain") and subscription.get("rap")),
+                message.get("payload", ""),
+                [subscription["id"]] if "id" in subscription else [], message.get("expiry"), group)
+
+
 def members(copy: Copy, message: Command, sessions: Sessions) -> Iterator[Copy]:
     """The copy as each connected member of its group would get it."""
-    for client, subscription in sessions.members(copy.group):
-        retain = bool(message.get("retain") and subscription.get("rap"))
-        yield copy._replace(
-            client=client, qos=min(message.get("qos", 0), subscription.get("qos", 0)),
-            retain=retain, ids=[subscription["id"]] if "id" in subscription else [])
+    for client, _ in sessions.members(copy.group):
+        yield copy_of_member(message, client, copy.group, sessions)._replace(
+            expiry=copy.expiry, late=copy.late)
 
 
 def with_their_members(ours: list[Copy], theirs: list[Copy], message: Command,

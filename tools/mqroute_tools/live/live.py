@@ -1,6 +1,7 @@
 """A live broker in tests of one's own: runs commands on it and on mqroute, and gives what
 differs."""
 import importlib.util
+from collections import Counter
 from collections.abc import Iterable
 from dataclasses import dataclass, field
 from typing import Any
@@ -9,6 +10,7 @@ from ..script.fresh_names import Marks, fresh
 from ..script.oracle import Oracle
 from ..script.output import Command
 from .options import BrokerOptions
+from .refused_lines import not_sent
 from .script_fitting import fitted_commands
 from .stored_diff import head
 
@@ -41,6 +43,7 @@ class Live:
         self.oracle = oracle or Oracle()
         self.marks = Marks()
         self.lacking: set[str] = set()  # what the last commands asked for and it doesn't offer
+        self.not_sent: Counter[str] = Counter()  # why of the last commands some weren't sent
 
     def __enter__(self) -> "Live":
         return self
@@ -62,6 +65,8 @@ class Live:
         script, self.lacking = fitted_commands(commands, self.broker.offer)
         mark = self.marks.next()
         marked = fresh(script, mark)
-        found = self.broker.run(marked, self.oracle.blocks(marked))
+        blocks = self.oracle.blocks(marked)
+        self.not_sent = not_sent(marked, blocks, self.options)
+        found = self.broker.run(marked, blocks)
         return [Difference(one.line, script[one.line - 1],
                            [text.replace(mark, "") for text in one.texts]) for one in found]

@@ -6,6 +6,7 @@ from ..common.option_values import amount, port
 from .packets import MQTT_3_1_1, MQTT_5
 
 PATIENCE = 5.0  # seconds
+WEBSOCKETS = "/mqtt"  # the path
 
 
 @dataclass(frozen=True)
@@ -31,6 +32,7 @@ class BrokerOptions:
     any_member: bool = False  # of a group may be served
     tls: Tls | None = None
     websockets: str | None = None  # the path
+    standard: bool = False  # by the standard's rules where mqroute's are others
 
     @classmethod
     def of(cls, options: argparse.Namespace) -> "BrokerOptions":
@@ -38,7 +40,7 @@ class BrokerOptions:
         tls = Tls(*files, options.insecure) if options.tls or any(files) else None
         return cls(options.host, options.port, options.username, options.password, options.on_acl,
                    options.patience, options.settle, options.protocol, options.any_member, tls,
-                   options.websockets)
+                   options.websockets, options.standard)
 
     def place(self) -> str:
         return f"the broker at {self.host} port {self.port}"
@@ -56,6 +58,9 @@ def add_broker(parser: argparse.ArgumentParser, of_username: str) -> None:
     parser.add_argument("--any-member", action="store_true",
                         help="a message for a group may go to any of its members that is "
                         "connected, whoever's turn it is")
+    parser.add_argument("--standard", action="store_true",
+                        help="go by the standard where mqroute has a rule of its own, and list at "
+                        "the end where that was; any member of a group may be served then")
     parser.add_argument("--tls", action="store_true", help="talk to it by TLS")
     parser.add_argument("--ca-file", metavar="FILE",
                         help="by TLS: authorities in place of the system's")
@@ -63,7 +68,7 @@ def add_broker(parser: argparse.ArgumentParser, of_username: str) -> None:
     parser.add_argument("--key-file", metavar="FILE", help="by TLS: the key for it")
     parser.add_argument("--insecure", action="store_true",
                         help="by TLS: the certificate may be of another host")
-    parser.add_argument("--websockets", nargs="?", const="/mqtt", metavar="PATH",
+    parser.add_argument("--websockets", nargs="?", const=WEBSOCKETS, metavar="PATH",
                         help="talk to it by websockets (PATH is /mqtt by default)")
 
 

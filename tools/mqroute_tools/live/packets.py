@@ -2,8 +2,8 @@
 from collections.abc import Callable
 from typing import Any, NamedTuple
 
-CONNACK, PUBLISH, PUBACK, PUBREC, PUBREL, PUBCOMP = 2, 3, 4, 5, 6, 7
-SUBACK, UNSUBACK, PINGRESP, DISCONNECT, AUTH = 9, 11, 13, 14, 15
+CONNECT, CONNACK, PUBLISH, PUBACK, PUBREC, PUBREL, PUBCOMP = 1, 2, 3, 4, 5, 6, 7
+SUBSCRIBE, SUBACK, UNSUBSCRIBE, UNSUBACK, PINGRESP, DISCONNECT, AUTH = 8, 9, 10, 11, 13, 14, 15
 NAMES = {CONNACK: "CONNACK", PUBLISH: "PUBLISH", PUBACK: "PUBACK", PUBREC: "PUBREC",
          PUBREL: "PUBREL", PUBCOMP: "PUBCOMP", SUBACK: "SUBACK", UNSUBACK: "UNSUBACK",
          PINGRESP: "PINGRESP", DISCONNECT: "DISCONNECT"}
@@ -137,21 +137,22 @@ PROPERTIES = {  # those that a broker may send
     42: Property("Shared Subscription Available", one, IN_CONNACK, high=1)}
 
 
-def properties(reader: Reader, packet: int) -> None:
-    """Reads them, and raises Malformed where one isn't as it has to be."""
+def properties(reader: Reader, packet: int) -> dict[str, list[Any]]:
+    """Their values by name. Raises Malformed where one isn't as it has to be."""
     inside = Reader(reader.take(reader.variable()))
-    seen = set()
+    seen: dict[str, list[Any]] = {}
     while not inside.is_at_end():
         key = inside.variable()
         known = PROPERTIES.get(key)
         if known is None or packet not in known.packets:
             raise Malformed(f"with property {key}, which it can't have")
         value = known.read(inside)
-        if key in seen and not known.repeated:
+        if known.name in seen and not known.repeated:
             raise Malformed(f"with two of {known.name}")
         if isinstance(value, int) and (value < known.low or value > (known.high or value)):
             raise Malformed(f"with a {known.name} of {value}")
-        seen.add(key)
+        seen.setdefault(known.name, []).append(value)
+    return seen
 
 
 def packet_identifier(reader: Reader) -> int:
@@ -192,8 +193,8 @@ def check_acknowledgement(packet: int, reader: Reader, protocol: str) -> None:
             properties(reader, packet)
 
 
-def check_subscribed(packet: int, reader: Reader, protocol: str) -> None:
-    """SUBACK and UNSUBACK of one filter."""
+def check_subscribed(packet: int, reader: Reader, protocol: str, filters: int) -> None:
+    """SUBACK and UNSUBACK of so many filters."""
     packet_identifier(reader)
     if protocol == MQTT_5:
         properties(reader, packet)
@@ -201,7 +202,8 @@ def check_subscribed(packet: int, reader: Reader, protocol: str) -> None:
         return
     if reader.is_at_end():
         raise Malformed("without a reason")
-    reason(reader, packet)
+    for _ in range(filters):
+        reason(reader, packet)
 
 
 def check_connack(reader: Reader, protocol: str) -> None:
@@ -226,7 +228,7 @@ def check_disconnect(reader: Reader, protocol: str) -> None:
             properties(reader, DISCONNECT)
 
 
-def check(first: int, reader: Reader, protocol: str) -> None:
+def check(first: int, reader: Reader, protocol: str, filters: int) -> None:
     """Raises Malformed where the packet isn't as it has to be."""
     packet, flags = first >> 4, first & 15
     if packet == PUBLISH:
@@ -238,7 +240,7 @@ def check(first: int, reader: Reader, protocol: str) -> None:
     elif packet in ACKNOWLEDGED:
         check_acknowledgement(packet, reader, protocol)
     elif packet in (SUBACK, UNSUBACK):
-        check_subscribed(packet, reader, protocol)
+        check_subscribed(packet, reader, protocol, filters)
     elif packet == DISCONNECT:
         check_disconnect(reader, protocol)
     if not reader.is_at_end():
@@ -249,13 +251,14 @@ def with_article(name: str) -> str:
     return f"an {name}" if name.startswith("U") else f"a {name}"
 
 
-def fault(first: int, body: bytes, protocol: str) -> str:
-    """What is wrong with the packet of this first byte; empty where nothing is."""
+def fault(first: int, body: bytes, protocol: str, filters: int = 1) -> str:
+    """What is wrong with the packet of this first byte; empty where nothing is. `filters` is how
+    many a SUBACK or UNSUBACK answers."""
     name = NAMES.get(first >> 4)
     if name is None:
         return f"a packet that begins with {first:02x}, which no broker sends"
     try:
-        check(first, Reader(body), protocol)
+        check(first, Reader(body), protocol, filters)
     except Malformed as malformed:
         return f"{with_article(name)} {malformed}"
     return ""

@@ -11,21 +11,27 @@ script, the broker.
 import argparse
 import json
 import re
+from collections import Counter
 from collections.abc import Iterable, Iterator
 from typing import TYPE_CHECKING
 
 from ..common.exit_status import Fault
 from ..common.files import at, keep_apart, open_input, refuse_stdin_twice
-from ..common.messages import counted, in_words, say
+from ..common.messages import in_words, numbered, say
 from ..common.option_values import whole_number
 from ..common.progress import Progress
 from ..common.texts import json_text
 from ..script.commands import Seen, line_faults
-from ..script.oracle import RULES, Oracle, answers
-from ..script.output import Block, Command, blocks, by_key, is_blank, misfit
+from ..script.oracle import Oracle
+from ..script.output import Block, Command, blocks, by_key, command_of, is_blank, misfit
+from ..script.rules import RULES
+from .by_conf import take_conf
+from .by_standard import PassedOver
 from .options import BrokerOptions, add_broker, add_waiting
+from .refused_lines import is_refused, is_refused_by_mqtt, shown as reasons_shown, why_not_sent
 from .replay_options import add_all, look_at_options
 from .run_ends import RunEnds
+from .script_fitting import fitted_script, read_list
 from .wills import Wills
 
 if TYPE_CHECKING:
@@ -35,10 +41,9 @@ Line = tuple[int, Command, Block]
 LINE = re.compile(r"\Aline (\d+):? ")  # how a fault of a live run begins
 
 
-def runnable(script: Iterable[bytes], given: Iterator[Block],
-             names: tuple[str, str]) -> Iterator[Line]:
-    """The lines that can be sent, with their answers: all but those refused as
-    no MQTT command can be."""
+def runnable(script: Iterable[bytes], given: Iterator[Block], names: tuple[str, str],
+             where: BrokerOptions, left_out: Counter[str]) -> Iterator[Line]:
+    """The lines that can be sent, with their answers; `left_out` gets why others aren't."""
     name, output = names
     lines, seen = iter(script), Seen(name)
     for number, line in enumerate(lines, 1):
@@ -50,13 +55,18 @@ def runnable(script: Iterable[bytes], given: Iterator[Block],
             seen.refuse(lines)
             raise Fault(f"{place}: not answered in {output}: it is cut short, "
                         "or is of another script")
-        if block.refused and block.refused != "NotAuthorized":
-            continue
         faults = line_faults(line.removesuffix(b"\n"))
+        if is_refused(block):
+            why = why_not_sent(None if faults else json.loads(line), block, where)
+            if why:
+                left_out[why] += 1
+                continue
         if faults:
             seen.refuse(lines)
             raise Fault(f"{place}: {faults[0]}: {output} accepts it: it is of another script")
         command = json.loads(line)
+        if is_refused(block) and not is_refused_by_mqtt(command):
+            raise Fault(f"{place}: {output} is of another script: it answers {block.refused}")
         why = misfit(command, block, by_key(block.copies, output))
         if why:
             raise Fault(f"{place}: {output} is of another script: it answers with {why}")
@@ -69,20 +79,41 @@ def runnable(script: Iterable[bytes], given: Iterator[Block],
 def offered(replay: "Replay", options: argparse.Namespace, script: list[bytes],
             given: list[Block], lines: list[Line]) -> list[Line]:
     """The lines as this broker can run them. Where it lacks something mqroute answers again."""
-    from .script_fitting import fitted_script, read_list
-    fitted, shown = fitted_script(script, {number for number, _, _ in lines}, replay.offer)
+    fitted, shown = fitted_script(
+        script, {number for number, _, block in lines if not is_refused(block)}, replay.offer)
     if not shown:
         return lines
+    lacking = ", ".join(what.partition(": ")[0] for what in shown)
+    again = asked_again(options, script, given, fitted, lacking)
+    replay.remarks += shown
+    return list(runnable(fitted, iter(again), (options.script, "mqroute's answer"),
+                         replay.options, Counter()))
+
+
+def asked_again(options: argparse.Namespace, script: list[bytes], given: list[Block],
+                fitted: list[bytes], why: str) -> list[Block]:
+    """What mqroute answers to the script that is run in the place of the given one."""
     acl = read_list(options.acl_file) if options.acl_file else None
-    with Oracle(acl, options.max_retained, options.max_queued, rules=options.rules) as oracle:
-        if answers(oracle.words, b"".join(script)) != given:
-            lacking = ", ".join(what.partition(": ")[0] for what in shown)
-            raise Fault(f"{lacking}: mqroute has to run again, and wrote {options.output} "
+    with Oracle(acl, options.max_retained, options.max_queued, rules=options.rules,
+                note=say) as oracle:
+        if oracle.script_blocks(b"".join(script)) != given:
+            raise Fault(f"{why}: mqroute has to run again, and wrote {options.output} "
                         "with other options. Give its --acl-file, --rules, --max-retained and "
                         "--max-queued")
-        again = answers(oracle.words, b"".join(fitted))
-    replay.remarks += shown
-    return list(runnable(fitted, iter(again), (options.script, "mqroute's answer")))
+        return oracle.script_blocks(b"".join(fitted))
+
+
+def without_waiting(replay: "Replay", options: argparse.Namespace, script: list[bytes],
+                    given: list[Block]) -> tuple[list[bytes], list[Block]]:
+    """The script without the lines that let time pass, and what mqroute answers to it."""
+    pauses = {number for number, line in enumerate(script, 1)
+              if (command_of(line) or {}).get("do") == "advance"}
+    if not pauses:
+        return script, given
+    fitted = [b"\n" if number in pauses else line for number, line in enumerate(script, 1)]
+    again = asked_again(options, script, given, fitted, "--no-wait")
+    replay.remarks["{} pauses left out, by --no-wait"] += len(pauses)
+    return fitted, again
 
 
 def answer(replay: "Replay", script: str, line: Line) -> list[str]:
@@ -108,7 +139,10 @@ def differences(replay: "Replay", options: argparse.Namespace,
     with open_input(options.script) as stream:
         script = stream.readlines()
     given = list(blocks(options.output))
-    lines = list(runnable(script, iter(given), (options.script, options.output)))  # faults first
+    if options.no_wait:
+        script, given = without_waiting(replay, options, script, given)
+    lines = list(runnable(script, iter(given), (options.script, options.output),
+                          replay.options, replay.not_sent))  # faults first
     replay.wills = Wills(lines if options.wills else ())
     place, fits = 0, False
     while place < len(lines):
@@ -119,6 +153,8 @@ def differences(replay: "Replay", options: argparse.Namespace,
             found = answer(replay, options.script, line)
         except RunEnds as fault:
             yield [head, f"   {fault}"]
+            return
+        except PassedOver:
             return
         if found:
             yield [head, *found]
@@ -148,12 +184,6 @@ def compared(replay: "Replay", options: argparse.Namespace) -> int:
     return number
 
 
-def numbered(text: str, number: int) -> str:
-    """`{} lines sent` with the number: `1 line sent`."""
-    before, _, things = text.partition("{} ")
-    return before + counted(number, things)
-
-
 def add_arguments(parser: argparse.ArgumentParser) -> None:
     parser.description = (
         "Runs a script on a live MQTT broker and compares with mqroute's output; or all cases of a "
@@ -162,6 +192,9 @@ def add_arguments(parser: argparse.ArgumentParser) -> None:
     parser.add_argument("output", nargs="?")
     add_all(parser)
     add_broker(parser, "user name of the clients for which the script has none")
+    parser.set_defaults(port=None)  # so that it's known whether it is given
+    parser.add_argument("--conf", metavar="FILE", help="the broker's mosquitto.conf, which names "
+                        "its port, its list, and how many messages may wait")
     parser.add_argument("--on-acl", metavar="COMMAND",
                         help="what the shell does for an `acl` line: it lets the broker read the "
                         "access list in the file $MQROUTE_ACL, "
@@ -178,11 +211,15 @@ def add_arguments(parser: argparse.ArgumentParser) -> None:
                         help="run as a will what a client publishes with the payload `will` and "
                         "then disconnects: it goes with the CONNECT, and the connection ends "
                         "without a DISCONNECT")
+    parser.add_argument("--no-wait", action="store_true",
+                        help="leave out the lines that let time pass: mqroute answers the script "
+                        "without them, as a broker does that is run without waiting")
     add_waiting(parser)
 
 
 def run(options: argparse.Namespace) -> int:
     look_at_options(options)
+    take_conf(options)
     if options.all:
         from .replay_all import run_all  # needs paho
         return run_all(options)
@@ -191,7 +228,7 @@ def run(options: argparse.Namespace) -> int:
 
 def run_one(options: argparse.Namespace) -> int:
     refuse_stdin_twice([options.script, options.output])
-    keep_apart([options.script, options.output, options.acl_file])
+    keep_apart([options.script, options.output, options.acl_file, options.conf])
     from .broker_run import Replay  # needs paho
     replay = Replay(BrokerOptions.of(options))
     try:
@@ -200,4 +237,6 @@ def run_one(options: argparse.Namespace) -> int:
         replay.end()
     for what, count in replay.remarks.items():
         say(numbered(what, count))
+    if replay.not_sent:
+        say(reasons_shown(replay.not_sent))
     return status

@@ -4,13 +4,13 @@ from pathlib import Path
 
 from ..common.exit_status import Fault
 from ..common.files import whole
-from ..common.messages import say
+from ..common.messages import numbered, say
 from ..common.progress import Progress
 from ..common.test_results import write_junit
 from ..common.texts import json_text
 from ..script.oracle import Oracle, OracleFault
 from .cases import Section, read_sections
-from .corpus_report import as_json, as_object, as_table, as_tap, as_test, as_text, notes
+from .corpus_report import as_json, as_object, as_table, as_tap, as_tests, as_text, notes
 from .corpus_run import CaseResult, CorpusRun, Outcome
 from .options import BrokerOptions
 
@@ -45,7 +45,7 @@ def finish(sections: list[Section], results: list[CaseResult],
     for note in notes(results):
         say(note)
     if options.junit:
-        write_junit(options.junit, map(as_test, results))
+        write_junit(options.junit, as_tests(results))
 
 
 def run_all(options: argparse.Namespace) -> int:
@@ -57,19 +57,22 @@ def run_all(options: argparse.Namespace) -> int:
     results: list[CaseResult] = []
     progress = Progress("case")
     try:
-        with Oracle() as oracle:
+        with Oracle(note=say) as oracle:
             run = CorpusRun(BrokerOptions.of(options), oracle, options.start, options.known)
             for number, result in enumerate(run.results(cases), 1):
                 progress.clear()
                 show(result, options)
                 results.append(result)
                 progress.at(number + 1, len(cases))
+            remarks = run.remarks()
     except OracleFault as fault:
         raise Fault(str(fault)) from fault
     finally:
         progress.clear()
         if results:
             finish(sections, results, options)
+    for what, count in remarks.items():
+        say(numbered(what, count))
     if run.held:
         say(HELD.format(", ".join(run.held[:5])))
     return status(results)

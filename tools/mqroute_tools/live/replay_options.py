@@ -5,7 +5,8 @@ from pathlib import Path
 from ..common.exit_status import UsageFault
 
 # Options of a run of one script, and those of a run of many.
-OF_ONE = ("acl_file", "rules", "max_retained", "max_queued", "wills")
+OF_ONE = ("acl_file", "rules", "max_retained", "max_queued", "wills",
+          "no_wait")
 OF_ALL = ("start", "known", "save", "junit", "tap", "json", "verbose")
 
 

@@ -7,6 +7,7 @@ from pathlib import Path
 from ..script.output import Command, command_of
 from ..script.sessions import FOREVER
 from .offer import Offer
+from .refused_lines import is_refused_by_mqtt
 from .text_files import read_utf8
 
 LEFT_OUT = "left out"
@@ -77,11 +78,13 @@ def fitted_script(lines: Iterable[bytes], sent: set[int],
 def fitted_commands(script: Iterable[Command],
                     offer: Offer) -> tuple[list[Command], set[str]]:
     """The commands that the broker can run, and what it doesn't offer of those that were to be. In
-    place of one that is left out stands one that isn't sent."""
+    place of one that is left out stands one that isn't sent. What every broker has to refuse stays
+    as it is."""
     instead: list[Command] = []
     lacking: set[str] = set()
     for command in script:
-        now, did = fitting(command, offer)
+        refused = offer.is_5 and is_refused_by_mqtt(command)
+        now, did = (command, []) if refused else fitting(command, offer)
         instead.append({"do": "stat"} if now is None else now)
         lacking |= {what for what, _ in did}
     return instead, lacking

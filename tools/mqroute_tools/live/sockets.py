@@ -34,7 +34,7 @@ class Sockets:
             self.drop(connection.client.socket())
 
     def drop(self, closed: Any) -> None:
-        with contextlib.suppress(KeyError):  # of a connection that was removed
+        with contextlib.suppress(KeyError, ValueError):  # it was removed, or ended
             self.selector.unregister(closed)
 
     def read(self, seconds: float) -> list[Connection]:

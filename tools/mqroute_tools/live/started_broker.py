@@ -48,6 +48,13 @@ def end(broker: "subprocess.Popen[bytes]") -> None:
             return
 
 
+def wait_for_silence(options: BrokerOptions) -> None:
+    """The shell may be gone before what it began."""
+    end = time.monotonic() + LISTENS
+    while listens(options) and time.monotonic() < end:
+        time.sleep(STEP)
+
+
 @contextlib.contextmanager
 def started(command: str | None, options: BrokerOptions) -> Iterator[None]:
     """While it runs. Without a command it is one that runs already."""
@@ -74,3 +81,4 @@ def started(command: str | None, options: BrokerOptions) -> Iterator[None]:
             if broker is not None:
                 with interrupt.held():
                     end(broker)
+                wait_for_silence(options)

@@ -8,13 +8,19 @@ from ..common.texts import lines as lines_of
 from ..live.stored_diff import are_near, is_near
 from ..live.wills import PAYLOAD
 from ..script.output import Command
+from ..script.topics import plain_filter
 
 OURS, THEIRS = "      mqroute: ", "      broker:  "
 NOBODY = "   reason: mqroute 0, broker 16"
 LONG = 1000  # bytes of a payload, from where on one is long
 DEEP = 5  # levels
 MANY = 40  # lines of a script
-PART = re.compile(r'(qos|retain|payload|ids|expiry) (\[[^]]*\]|"[^"]*"(?:, "[^"]*")*|[^,]+)')
+# What differs where a copy's number of it does, and nothing else.
+COUNTED = ("missing", "more")  # of copies
+ALONE = {"ids": "identifiers", "qos": "QoS"}
+TEXT = r'"[^"]*"(?: and \d+ characters? more)?'  # a payload, as it is shown
+PART = re.compile(
+    rf'(qos|retain|payload|ids|expiry) (\[[^]]*\]|{TEXT}(?:, {TEXT})*|[^,]+)')
 
 
 class Difference(NamedTuple):
@@ -34,7 +40,12 @@ class Kind(NamedTuple):
 
     def covers(self, other: "Kind") -> bool:
         """Whether the other may be this one, with more around it."""
-        return self.what == other.what and self.uses <= other.uses
+        return self.uses <= other.uses and (self.what == other.what or self.shows_as(other.what))
+
+    def shows_as(self, what: str) -> bool:
+        """Whether a copy more or less shows so, beside copies by overlapping subscriptions."""
+        do, _, mine = self.what.partition(": ")
+        return mine in COUNTED and what in {f"{do}: {alone}" for alone in ALONE.values()}
 
 
 def fewer(here: str, there: str) -> bool:
@@ -44,7 +55,7 @@ def fewer(here: str, there: str) -> bool:
 
 
 def of_payloads(here: str, there: str) -> str:
-    mine, other = (set(re.findall(r'"[^"]*"', side)) for side in (here, there))
+    mine, other = (set(re.findall(TEXT, side)) for side in (here, there))
     return "more" if mine < other else "missing" if other < mine else "payload"
 
 
@@ -60,13 +71,15 @@ def of_parts(ours: str, theirs: str) -> list[str]:
     """A client's copies of one topic are joined: of a copy more or less the rest has other
     identifiers, QoS and payloads."""
     here, there = (dict(PART.findall(side)) for side in (ours, theirs))
-    found = set()
+    found = {}
     for name in ("qos", "ids", "payload", "retain", "expiry"):
         mine, other = here.get(name, ""), there.get(name, "")
         if mine != other and not (name == "expiry" and is_near(f"expiry {mine}",
                                                                f"expiry {other}")):
-            found.add(of_part(name, mine, other))
-    return sorted(found)
+            found[name] = of_part(name, mine, other)
+    if len(found) == 1 and re.fullmatch(TEXT, here.get("payload", "")):
+        found |= {name: ALONE[name] for name in found.keys() & ALONE.keys()}
+    return sorted(set(found.values()))
 
 
 def of_copies(head: str, ours: str, theirs: str) -> list[str]:
@@ -113,7 +126,7 @@ def of_name(name: str) -> set[str]:
 def of_subscribe(command: Command, before: set[tuple[str, str]]) -> set[str]:
     name = command["filter"]
     shared = name.startswith("$share/")
-    plain = name.split("/", 2)[2] if shared else name
+    plain = plain_filter(name)
     uses = {"subscribe", "group" if shared else "plain"} | {sign for sign in "#+" if sign in plain}
     uses |= {field for field in ("no_local", "rap", "id", "qos") if command.get(field)}
     uses |= of_name(plain)

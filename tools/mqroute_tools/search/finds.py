@@ -23,8 +23,6 @@ TRIES = 2  # a broker may do the same thing now and then
 # one in so many scripts whose differences all seem known is made small all the same
 LOOK_AGAIN = 10
 LONGEST_SHRINKING = 60  # seconds
-HURRIED = 0.5  # seconds that a broker gets, while a script that it doesn't answer is made small
-NO_ANSWER = ": no answer"
 Script = list[Command]
 
 
@@ -33,8 +31,8 @@ class Broker(Protocol):
 
     def can_run(self, script: Script) -> bool: ...
 
-    def run(self, script: Script, blocks: list[Block], until: float = ...,
-            patience: float | None = ...) -> list[LineDifference]: ...
+    def run(self, script: Script, blocks: list[Block],
+            until: float = ...) -> list[LineDifference]: ...
 
 
 @dataclass
@@ -98,14 +96,14 @@ class Search:
         self.marks = Marks()
         self.ran: tuple[Script, list[Block]] = [], []  # the last script, as it was sent
 
-    def run(self, script: Script, patience: float | None = None) -> list[Difference]:
+    def run(self, script: Script) -> list[Difference]:
         """What differs, with names that no script before had."""
         self.runs += 1
         mark = self.marks.next()
         marked = fresh(script, mark, self.by_letter)
         self.ran = marked, blocks = marked, self.oracle.blocks(marked)
         try:
-            found = self.broker.run(marked, blocks, self.until, patience)
+            found = self.broker.run(marked, blocks, self.until)
         except OSError as fault:
             text = " ".join(map(as_json, script))
             raise Fault(f"the broker is gone ({in_words(fault)}) in this script, "
@@ -129,10 +127,9 @@ class Search:
 
     # -- making it small
 
-    def differs(self, script: Script, what: str, but: list[Kind],
-                patience: float | None = None) -> list[Difference]:
+    def differs(self, script: Script, what: str, but: list[Kind]) -> list[Difference]:
         """The script's differences if one is this, of none of these kinds: it first."""
-        found = self.run(script, patience)
+        found = self.run(script)
         for one in found:
             if one.what == what and not any(it.covers(kind(script, one)) for it in but):
                 return [one, *(other for other in found if other is not one)]
@@ -218,7 +215,6 @@ class Smaller:
     def __init__(self, search: Search, what: str, but: list[Kind]) -> None:
         self.search, self.what, self.but = search, what, but
         self.end = min(search.until, time.monotonic() + LONGEST_SHRINKING)
-        self.patience = HURRIED if what.endswith(NO_ANSWER) else None
         self.is_cut_off = False
         # the smallest so far, and what differs in it
         self.best: tuple[Script, list[Difference]] | None = None
@@ -229,7 +225,7 @@ class Smaller:
         try:
             if time.monotonic() > self.end:
                 raise CutOff
-            found = self.search.differs(script, self.what, self.but, self.patience)
+            found = self.search.differs(script, self.what, self.but)
         except TimeIsUp as up:
             raise CutOff from up
         if found:

@@ -7,13 +7,14 @@ PARTS = ("groups", "retained", "wildcards", "identifiers", "sessions", "expiry",
 # Access lists, where the broker can be given them; pauses in real time, where they are asked
 # for; and names and marks that access lists by mosquitto's rules make much of.
 ACCESS, CLOCK, MARKS = "access", "clock", "marks"
-ALL = (*PARTS, ACCESS, CLOCK, MARKS)
+ODD = "odd"  # scenes behind the script: big and odd values, groups of three
+ALL = (*PARTS, ACCESS, CLOCK, MARKS, ODD)
 # Of MQTT 3.1.1 a session is kept for ever or not at all.
 OLD_SESSIONS = "sessions of MQTT 3.1.1"
 
 
 class Use(NamedTuple):
-    parts: frozenset[str] = frozenset(PARTS)
+    parts: frozenset[str] = frozenset((*PARTS, ODD))
 
     def has(self, part: str) -> bool:
         return part in self.parts

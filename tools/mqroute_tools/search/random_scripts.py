@@ -7,7 +7,8 @@ from ..live.wills import PAYLOAD
 from ..script.output import Command
 from ..script.sessions import FOREVER
 from .odd_names import odd_script
-from .parts import ACCESS, CLOCK, MARKS, OLD_SESSIONS, PARTS, Use
+from .odd_scenes import add_scene
+from .parts import ACCESS, CLOCK, MARKS, ODD, OLD_SESSIONS, PARTS, Use
 from .random_lists import USERS, random_list
 
 CLIENTS = "abcd"
@@ -39,7 +40,12 @@ class Maker:
         chance = random.Random(f"{self.seed}/{number}")
         if self.use.has(MARKS) and chance.random() < ODD_SCRIPTS:
             return odd_script(chance, ODD_LISTS, min(1, self.use.qos()))
-        return RandomScript(chance, self.use).made()
+        script = RandomScript(chance, self.use)
+        script.made()
+        script.chance = random.Random(f"{self.seed}/{number}/odd")
+        if self.use.has(ODD) and not self.use.has(ACCESS):
+            add_scene(script, self.use.has(OLD_SESSIONS))
+        return script.lines
 
 
 class Names(NamedTuple):

@@ -15,12 +15,13 @@ from collections.abc import Iterator
 from pathlib import Path
 
 from ..common.exit_status import Fault
-from ..common.messages import say
+from ..common.messages import numbered, say
 from ..common.option_values import amount, whole_number
 from ..live.offer import Offer
 from ..live.options import BrokerOptions, add_broker, add_waiting
 from ..live.started_broker import started
-from ..script.oracle import RULES, Oracle, OracleFault
+from ..script.oracle import Oracle, OracleFault
+from ..script.rules import RULES
 from .finds import Find, Search
 from .known import Known, known_differences
 from .parts import ACCESS, ALL, CLOCK, MARKS, OLD_SESSIONS, Use
@@ -123,6 +124,9 @@ def add_what(parser: argparse.ArgumentParser) -> None:
                         help="of the random scripts (default 1)")
     parser.add_argument("--only", type=whole_number(1), metavar="N",
                         help="run the script of this number alone")
+    parser.add_argument("--at-least", type=whole_number(1), default=1, metavar="N",
+                        help="end with status 2 where fewer scripts were run to their end and "
+                        "nothing was found (default 1)")
     parser.add_argument("--without", type=parts, action="extend", default=[], metavar="PART,..",
                         help=f"leave these out of the scripts: {', '.join(ALL)}")
     parser.add_argument("--known", type=Path, action="append", default=[], metavar="FOLDER",
@@ -155,7 +159,7 @@ def run(options: argparse.Namespace) -> int:
              for one in known_differences(folder, bool(options.on_acl), options.clock)]
     where = BrokerOptions.of(options)
     try:
-        with Oracle(rules=options.rules) as oracle, started(options.start, where):
+        with Oracle(rules=options.rules, note=say) as oracle, started(options.start, where):
             return on_broker(where, oracle, known, options).status()
     except OracleFault as fault:
         raise Fault(str(fault)) from fault
@@ -168,4 +172,8 @@ def on_broker(where: BrokerOptions, oracle: Oracle, known: list[Known],
     broker = LiveBroker(where)
     say_of_held(broker.held)
     search = Search(broker, oracle, until, by_letter=options.rules == "mosquitto")
-    return searched(search, offered(broker.offer, options), known, options)
+    report = searched(search, offered(broker.offer, options), known, options)
+    broker.leave()
+    for what, count in broker.remarks.items():
+        say(numbered(what, count))
+    return report

@@ -13,6 +13,8 @@ from ..common.texts import escaped, json_text
 from .difference_kinds import Difference
 from .finds import Find, Search, Unrepeated, report
 
+# A text in JSON that is long, but for its beginning.
+LONG = re.compile(r'("(?:[^"\\]|\\.){60})((?:[^"\\]|\\.){60,})"')
 CUT_OFF = "cut off: it may not be the smallest"
 SUITE = "mqroute-search"
 
@@ -29,6 +31,11 @@ def save(find: Find, number: int, folder: Path) -> None:
             (".jsonl", find.lines()), (".out", find.output()), (".diff", find.report())):
         with whole(str(folder / f"find-{number}{end}")) as out:
             out.writelines((line + "\n").encode("utf-8") for line in lines)
+
+
+def shortened(line: str) -> str:
+    """A line of a script to be read: --save and --json have it whole."""
+    return LONG.sub(lambda found: f'{found[1]}" and {len(found[2]):,} characters more', line)
 
 
 def as_object(difference: Difference) -> dict[str, Any]:
@@ -59,8 +66,8 @@ class Report:
             print(json_text(self.find_object(find, number)), flush=True)
         else:
             uses = escaped(f"with {', '.join(sorted(find.kind.uses))}")
-            print("\n".join([self.head(find, number), uses, *find.lines(), "", *find.report(), ""]),
-                  flush=True)
+            lines = [*find.lines(), "", *find.report(), ""]
+            print("\n".join([self.head(find, number), uses, *map(shortened, lines)]), flush=True)
         if self.options.save:
             save(find, number, self.options.save)
 
@@ -92,7 +99,8 @@ class Report:
             say(f"exercised: {line}")
         if self.options.verbose and not self.options.json:
             for passing in search.passing:
-                print("\n".join([*self.passing_lines(passing), ""]), flush=True)
+                lines = [*self.passing_lines(passing), ""]
+                print("\n".join(map(shortened, lines)), flush=True)
         if self.options.json:
             print(json_text(self.summary()), flush=True)
         if self.options.junit:
@@ -133,6 +141,9 @@ class Report:
         if not search.scripts:
             why = "the time was up" if search.time_is_up else "the broker can't run it"
             raise Fault(f"no script was run to its end: {why}")
+        if search.scripts < self.options.at_least and not self.options.only:
+            raise Fault(f"{counted(search.scripts, 'scripts')} run to the end, where --at-least "
+                        f"asks for {self.options.at_least}: give --minutes")
         if wanted and search.scripts < wanted and search.time_is_up:
             raise Fault(f"the time was up after {search.scripts} of {wanted} scripts: "
                         "give --minutes")
