@@ -10,6 +10,7 @@ from mqroute_tools.common.exit_status import Fault
 from mqroute_tools.conf.limits import (
     left_out, refuse_dead_list, refuse_plugins, refuse_shared_ports, refuse_short_log)
 from mqroute_tools.conf.mosquitto_conf import Conf
+from mqroute_tools.conf.password_names import names_of
 from mqroute_tools.conf.reading import ConfFault, read_conf
 
 NOT_STARTING = {
@@ -173,10 +174,22 @@ class Settings(ConfCase):
 
     def test_what_is_left_out(self):
         self.assertEqual(left_out(self.conf("listener 1\n")), [])
-        text = "upgrade_outgoing_qos true\nmax_queued_bytes 9\nqueue_qos0_messages false\n"
-        one, other = left_out(self.conf(text))
+        text = ("upgrade_outgoing_qos true\nmax_queued_bytes 9\nqueue_qos0_messages false\n"
+                "max_queued_messages 0\n")
+        one, last, other = left_out(self.conf(text))
         self.assertIn("mosquitto.conf:1: upgrade_outgoing_qos true: ", one)
         self.assertIn("mosquitto.conf:2: max_queued_bytes 9: ", other)
+        self.assertIn("mosquitto.conf:4: max_queued_messages 0: ", last)
+
+
+class PasswordNames(ConfCase):
+    def test_as_mosquitto_reads_it(self):
+        path = self.folder / "pw"
+        path.write_bytes(b"ana:$7$1$a$b\n#bob:$7$1$a$b\n  carl b :$7$1$a$b:c\r\ndora\nemil:\n"
+                         b"\n:$7$1$a$b\nana:$7$1$c$d\nz\xff:$7$1$a$b")
+        self.assertEqual(names_of(str(path)), ["ana", "carl b", "z\ufffd"])
+        with self.assertRaisesRegex(Fault, "/none: No such file or directory$"):
+            names_of(str(self.folder / "none"))
 
 
 class AtMosquitto(ConfCase):

@@ -145,3 +145,18 @@ class InForce(Case):
                              (("proposed.acl", "plain.acl"), "not in force")):
             done = self.shown("--json", "--plan", "plan", *lists, "plain.log")
             self.assertEqual(json.loads(done.stdout)["in_force"]["state"], state)
+
+    def test_lines_of_the_log_with_a_plan(self):
+        """A cause has the line of the log that its line of the script came from."""
+        self.write("plan", "plant/# -> works/#\n")
+        words = ["--json", "--plan", "plan", "--keep", "kept", "plain.acl", "proposed.acl"]
+        found = json.loads(self.shown(*words, "plain.log").stdout)
+        script = (self.folder / "kept/script.jsonl").read_text("utf-8").split("\n")
+        log = (self.folder / "plain.log").read_text("utf-8").split("\n")
+        causes = [cause for row in found["users"] + found["refused"] for cause in row["causes"]]
+        self.assertGreater(len(causes), 3)
+        for cause in causes:
+            name, _, line = cause["log"].rpartition(":")
+            command = json.loads(script[cause["line"] - 1])
+            self.assertEqual(name, "plain.log")
+            self.assertIn(command.get("topic", command["client"]), log[int(line) - 1])

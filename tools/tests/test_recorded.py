@@ -90,13 +90,15 @@ class Scripts(unittest.TestCase):
 
     def test_each_is_named(self):
         """docs/explanation/brokers.md names each script in its broker's section, and those that
-        differ in its table."""
+        differ in its table; of what searches found it names the folders."""
         sections = (TOP / "docs/explanation/brokers.md").read_text(encoding="utf-8").split("\n## ")
         by_broker = {section.split(" ")[0].lower(): section for section in sections}
         agreement = next(
             section for section in sections if section.startswith("Where mosquitto agrees"))
-        folders = sorted(
-            path for path in (TOP / "brokers/differences").iterdir() if path.is_dir())
+        folders = sorted(path for path in (TOP / "brokers/differences").iterdir()
+                         if path.is_dir() and path.name != "found")
+        for path in (TOP / "brokers/differences/found").iterdir():
+            self.assertIn(f"`found/{path.name}`", " ".join(sections).replace("differences/", ""))
         self.are_named("brokers/differences", by_broker["mosquitto"], agreement)
         for folder in folders:
             section = by_broker[folder.name]

@@ -65,6 +65,10 @@ def left_out(conf: Conf) -> list[str]:
     """What answers leave out, in words."""
     found = [f"{place_of_setting(conf, word)}: {word} true: {words}; this answer leaves that out"
              for word, words in SAID if conf.all.flag(word)]
+    if conf.max_queued() is None:
+        place = place_of_setting(conf, "max_queued_messages")
+        found.append(f"{place}: max_queued_messages 0: a client whose publish of QoS 1 or 2 is "
+                     "refused may be disconnected; this answer leaves that out")
     most = conf.all.number("max_queued_bytes", 0)
     if most:
         place = place_of_setting(conf, "max_queued_bytes")

@@ -1,6 +1,6 @@
 """The log files that a tool reads, one after another, some of them twice."""
 from collections.abc import Iterator, Mapping
-from typing import IO, BinaryIO
+from typing import BinaryIO
 
 from ..common import temporary
 from ..common.exit_status import Fault
@@ -22,7 +22,6 @@ class Logs:
     def __init__(self, names: list[str], twice: bool = True, form: str | None = None,
                  copied: Mapping[str, str] = {}) -> None:
         self.form = form
-        self.copies: list[IO[bytes]] = []
         self.starts: list[tuple[int, str]] = []  # how many lines were read before each file
         self.head, self.headed = b"", ""  # how the first file begins that isn't empty, and its name
         paths = [copied.get(name, name) for name in names or [STDIN]]
@@ -32,8 +31,7 @@ class Logs:
             self.files = in_order(self.files, form)
 
     def copy(self, name: str) -> str:
-        copy = temporary.file()
-        self.copies.append(copy)
+        copy = temporary.file(self)
         with open_input(name) as stream:
             while piece := stream.read(PIECE):
                 copy.write(piece)

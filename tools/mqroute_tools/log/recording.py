@@ -2,8 +2,9 @@
 answers to that script."""
 import argparse
 import gc
-import pickle
+import marshal
 from array import array
+from collections import defaultdict
 from collections.abc import Callable, Iterator
 from contextlib import contextmanager
 from typing import IO
@@ -16,9 +17,11 @@ from .log_files import Logs
 from .log_to_script import text_of
 from .script_writer import Makes, Writer, read_logs
 from .step_reader import Watcher, answered, steps
-from .steps import Step
+from .steps import Flat, Step, step_of
 
+SHORTLY = 1000  # lines within which a client that resumes is sent what waited
 BATCH = 256  # steps that are kept at once
+SIZE = 8  # bytes of the size of a batch
 REREADS = "Reloading config."
 
 
@@ -32,6 +35,8 @@ class Recorder(Watcher):
         self.restarts: list[int] = []
         self.begins_anew = False  # whether the log begins with the broker's start
         self.users: set[str] = set()  # of clients that connect
+        self.resumptions: defaultdict[str, list[int]] = defaultdict(list)  # where clients resume
+        self.qos_0: set[str] = set()  # topics that are published with QoS 0
         super().__init__(session_expiry, form, begins)
 
     def explain(self, client: str, topic: str) -> None:
@@ -41,6 +46,8 @@ class Recorder(Watcher):
 
     def take(self, found: log.Publish, routed: bool) -> None:
         self.incoming += 1
+        if found.qos == 0:
+            self.qos_0.add(found.topic)
         super().take(found, routed)
 
     def noted(self, text: str) -> bool:
@@ -60,7 +67,15 @@ class Recorder(Watcher):
                 present: bool) -> None:
         if user:
             self.users.add(user)
+        if present:
+            self.resumptions[client].append(arrival.place)
         super().connect(arrival, client, user, clean, protocol, present)
+
+    def may_have_waited(self, client: str, topic: str, place: int) -> bool:
+        """Whether a copy of QoS 0 at this line may be one that waited for its client, where a
+        broker keeps such: it resumed shortly before."""
+        places = self.resumptions.get(client, ())
+        return topic in self.qos_0 and any(0 <= place - each < SHORTLY for each in places)
 
     def shows_all(self) -> bool:
         """Whether nothing older than the log matters."""
@@ -76,33 +91,37 @@ class KeptSteps:
     @contextmanager
     def written(self) -> Iterator[Callable[[Step], None]]:
         """Gives what takes each step, in place of those of an earlier reading."""
-        batch: list[Step] = []
+        batch: list[Flat] = []
         with open(self.path, "wb") as out:
+            def write() -> None:
+                data = marshal.dumps(batch)
+                out.write(len(data).to_bytes(SIZE) + data)
+                batch.clear()
+
             def add(step: Step) -> None:
-                batch.append(step)
+                batch.append(step.flat())
                 if len(batch) == BATCH:
-                    pickle.dump(batch, out, pickle.HIGHEST_PROTOCOL)
-                    batch.clear()
+                    write()
             yield add
-            pickle.dump(batch, out, pickle.HIGHEST_PROTOCOL)
+            write()
 
     def __iter__(self) -> Iterator[Step]:
         with open(self.path, "rb") as stream:
-            while True:
-                try:
-                    yield from pickle.load(stream)
-                except EOFError:
-                    return
+            # marshal itself reads a file byte by byte
+            while size := int.from_bytes(stream.read(SIZE)):
+                yield from map(step_of, marshal.loads(stream.read(size)))
 
 
 @contextmanager
 def uncollected() -> Iterator[None]:
     """Next to nothing here refers to itself, and to look for it takes a third of the time."""
+    was_on = gc.isenabled()
     gc.disable()
     try:
         yield
     finally:
-        gc.enable()
+        if was_on:
+            gc.enable()
 
 
 def record(wanted: "Makes[Recorder]", options: argparse.Namespace, logs: Logs, out: IO[bytes],

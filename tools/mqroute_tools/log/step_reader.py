@@ -71,8 +71,15 @@ class Watcher(Writer):
         return super().subscribed(client)
 
     def copied(self, sent: log.Publish) -> bool:
-        counts = super().copied(sent)
-        client, dup, qos, _, packet, _, _, _ = sent
+        client, dup, qos, retain, packet, topic, _, _ = sent
+        session = self.connected.get(client)
+        if session is None or retain or session.taken or session.asked or (
+                self.ended is not None or topic.startswith("$SYS/")):
+            counts, kind = super().copied(sent), self.apart(sent)
+        else:  # as most are: the same, in less time
+            counts, kind = True, ""
+            if not dup:
+                self.explain(client, topic)
         released = self.acknowledging_client == (client, self.turn - 1)
         if released:
             self.acknowledging_client = client, self.turn
@@ -80,7 +87,7 @@ class Watcher(Writer):
                 self.events.pop()
         self.sent_to = client, self.turn
         if not (dup or qos and self.flight.again(client, packet)):
-            self.events.append(Event(self.place, client, sent, released, self.apart(sent)))
+            self.events.append(Event(self.place, client, sent, released, kind))
         if qos:
             self.flight.add(client, packet, released)
         return counts

@@ -3,10 +3,13 @@ from collections import defaultdict
 from collections.abc import Mapping, Set
 from dataclasses import dataclass, field
 from functools import lru_cache
-from typing import NamedTuple
+from typing import Any, NamedTuple
 
 from ..script.output import Command, Key
+from .clients import Inferred
 from .mosquitto_log import Publish
+
+Flat = tuple[Any, ...]  # a step, of values that marshal knows
 
 
 @dataclass(order=True, slots=True, frozen=True)
@@ -63,17 +66,27 @@ class Step:
         self.renamed = False  # its publish was received under another user name
         self.flying = NOT_FLYING  # in flight: as many as may be?
 
+    def flat(self) -> Flat:
+        """As it was read of a log, of plain values alone, for another process or a file."""
+        commands = [(command if type(command) is dict else dict(command), type(command) is Inferred)
+                    for command in self.commands]
+        events = [(place, client, None if copy is None else tuple(copy), released, apart)
+                  for place, client, copy, released, apart in self.events]
+        return (self.place, commands, events, self.broker.refused, self.shared, self.old_protocol,
+                self.renamed, self.flying)
+
     def __reduce__(self) -> tuple[object, ...]:
-        """As it was read of a log, for another process."""
-        return read_step, (self.place, self.commands, self.events, self.broker.refused,
-                           self.shared, self.old_protocol, self.renamed, self.flying)
+        return step_of, (self.flat(),)
 
 
-def read_step(place: int, commands: list[Command], events: list[Event], refused: list[Key],
-              shared: Mapping[str, list[str]], old_protocol: Set[str], renamed: bool,
-              flying: Mapping[str, bool]) -> Step:
-    step = Step(place)
-    step.commands, step.events, step.broker.refused = commands, events, refused
-    step.shared, step.old_protocol, step.renamed, step.flying = (
-        shared, old_protocol, renamed, flying)
+def step_of(flat: Flat) -> Step:
+    """From what `flat` gave."""
+    place, commands, events, refused, shared, old_protocol, renamed, flying = flat
+    step, new = Step(place), tuple.__new__
+    step.commands = [Inferred(command) if inferred else command for command, inferred in commands]
+    # as Event(..) makes them, by one call less
+    step.events = [new(Event, (at, client, None if copy is None else new(Publish, copy), *more))
+                   for at, client, copy, *more in events]
+    step.broker.refused, step.shared, step.old_protocol, step.renamed, step.flying = (
+        refused, shared, old_protocol, renamed, flying)
     return step
