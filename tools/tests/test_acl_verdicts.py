@@ -44,7 +44,7 @@ for access in ("read", "write"):
         program.write_text(self.ASKED)
         program.chmod(0o755)
         with unittest.mock.patch.dict(os.environ, MQROUTE_ACL_PROGRAM=str(program)):
-            done = self.compared(script, before, after, *lists, *words, **more)
+            done = self.compared(script, before, after, *lists, "--rules=own", *words, **more)
         asked = Path(f"{program}.asked")
         self.asked = asked.read_text().splitlines() if asked.exists() else []
         return done
@@ -126,7 +126,7 @@ meter        1  x/#         2      2  refused in both""")
                           done.stdout, done.stderr)
 
     def contradicts(self, done: subprocess.CompletedProcess, said: str) -> None:
-        said = f"who_loses: the lists don't fit the outputs: {said}\n"
+        said = f"who_loses: by mqroute's own rules the lists don't fit the outputs: {said}\n"
         self.assertEqual((done.returncode, done.stdout, done.stderr), (2, "", said))
 
     def test_lists_that_do_not_fit(self):
@@ -178,6 +178,17 @@ meter        1  x/#         2      2  refused in both""")
             (done.returncode, done.stderr),
             (2, "who_loses: cannot run /nowhere/mqroute-acl: No such file or directory\n"))
         self.assertEqual(self.compared([P], ALL, ALL, "--acl-before", "before.acl").returncode, 2)
+
+    def test_by_whose_rules(self):
+        """Without the option by mosquitto's: a topic line decides before a pattern line."""
+        script, lists = [P, R, subscribe("r"), publish("p")], [*self.LISTS, "--why"]
+        before = "topic readwrite x\nuser ops\ntopic read x\nuser meter\ntopic write x\n"
+        after = before + "pattern deny x\n"
+        own = self.compared(script, before, after, *lists, "--rules=own")
+        self.assertIn("5: topic write x -> 6: pattern deny x", own.stdout)
+        done = self.compared(script, before, after, *lists)
+        self.assertEqual(done.returncode, 2)
+        self.assertIn("by mosquitto's rules the lists don't fit the outputs", done.stderr)
 
 
 if __name__ == "__main__":

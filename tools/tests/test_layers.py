@@ -9,12 +9,12 @@ from worked import HERE
 
 PACKAGE = HERE / "mqroute_tools"
 # each folder, with those that it may import from
-BELOW = {"common": set(), "conf": {"common"}, "script": {"common", "conf"},
+BELOW = {"common": set(), "conf": {"common"}, "plain": set(), "script": {"common", "conf", "plain"},
          "log": {"common", "conf", "script"},
          "plan": {"common", "script"},
          "losses": {"common", "script", "plan"}, "why": {"common", "conf", "script", "log"},
          "preview": {"common", "script", "conf", "log", "plan", "losses"},
-         "live": {"common", "script"}, "search": {"common", "script", "live"}}
+         "live": {"common", "script", "conf"}, "search": {"common", "script", "live"}}
 
 
 def imported(path: Path) -> Iterator[Path]:

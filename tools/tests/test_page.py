@@ -145,7 +145,7 @@ class Pages(unittest.TestCase):
                 names = {row["who"] for row in page.of("copies")}
                 self.assertEqual(len(names), len(ODD))
                 self.assertTrue({ODD[0], ODD[1], ODD[3], '" "', ODD[6]} <= names, names)
-                self.assertEqual("\\u202e" in " ".join(names), True)
+                self.assertIn("\\u{202e}", " ".join(names))
                 self.assertNotIn("\u202e", Path(folder, "page.html").read_text(encoding="utf-8"))
 
     @wants_program

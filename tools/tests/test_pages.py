@@ -117,7 +117,7 @@ class Pages(unittest.TestCase):
 
 
 # The programs, each with the source of the texts that it shows on standard error.
-SHOWN_BY = {"mqroute": "mq_cli/src/failure.rt", "mqroute-acl": "mq_acl_answers/src/failure.rt"}
+SHOWN_BY = {"mqroute": "mq_cli/src/failure.rt", "mqroute-acl": "mq_ask/src/failure.rt"}
 
 
 def diagnostics(program: str) -> list[str]:
@@ -155,13 +155,14 @@ class Diagnostics(unittest.TestCase):
         """What mqroute-acl notes beside an answer, without what is put in."""
         noted = (TOP / "docs/mqroute-acl.1").read_text("utf-8").split(".SH NOTES\n")[1].split(
             "\n.SH")[0].replace("\\-", "-")
-        texts = [text for name in ("cases", "otherwise") for text in re.findall(
-            r'"(?:mqroute-acl: )?\{file\}[^"]*?: ([^"]*mosquitto 2\.0[^"{]*)',
-            (TOP / f"crates/mq_acl_answers/src/{name}.rt").read_text("utf-8"))]
-        self.assertGreater(len(texts), 5)
+        noted = re.sub(r'" \w+ "', "", noted)
+        source = (TOP / "crates/mq_ask/src/notes.rt").read_text("utf-8")
+        texts = re.findall(r'"([^"\n]*(?:has pattern|the answer is)[^"\n]*)"', source)
+        self.assertEqual(len(texts), 3)
         for text in texts:
-            with self.subTest(text=text):
-                self.assertIn(text.strip(": ").removesuffix(" after"), noted)
+            for part in re.split(r"\{\w*\}", text.removesuffix("\\n")):
+                with self.subTest(text=part):
+                    self.assertIn(part.strip("() "), noted)
 
     def test_each_kind_of_fault_is_explained(self):
         kinds = re.findall(r"^    (\w+),$", (TOP / "crates/mq_acl/src/fault.rt").read_text(

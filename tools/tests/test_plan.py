@@ -227,8 +227,9 @@ class Reading(Case):
         self.write("list", "topic read a")
         for text in [*(text for text, _ in FAULTS), *NO_FAULTS]:
             self.write("bad", text)
-            done = subprocess.run([ACL_PROGRAM, "compare", "list", "list", "--plan", "bad"],
-                                  cwd=self.folder, capture_output=True, encoding="utf-8")
+            done = subprocess.run(
+                [ACL_PROGRAM, "compare", "--rules=own", "list", "list", "--plan", "bad"],
+                cwd=self.folder, capture_output=True, encoding="utf-8")
             with self.subTest(text=text[:40]):
                 try:
                     plan_of(text, "bad")
@@ -237,7 +238,7 @@ class Reading(Case):
                     self.assertEqual(done.stderr, f"{fault}\n")
         for text, said in LIST_FAULTS:
             self.write("bad", text)
-            done = subprocess.run([ACL_PROGRAM, "lint", "bad"], cwd=self.folder,
+            done = subprocess.run([ACL_PROGRAM, "lint", "--rules=own", "bad"], cwd=self.folder,
                                   capture_output=True, encoding="utf-8")
             self.assertIn(f"bad:{said}", done.stdout + done.stderr)
 

@@ -7,7 +7,14 @@ import shutil
 
 from test_preview import Case, wants_programs
 from worked import HERE
-from mqroute_tools.preview.list_rows import Row
+from mqroute_tools.conf.reading import read_conf
+from mqroute_tools.log.broker_state import State
+from mqroute_tools.log.inference import Beginning
+from mqroute_tools.log.recording import SHORTLY, Recorder
+from mqroute_tools.log.report_line import Line
+from mqroute_tools.log.steps import Copy
+from mqroute_tools.preview.by_conf import ByConf
+from mqroute_tools.preview.list_rows import Row, rows_of
 from mqroute_tools.preview.listeners import Key, filled
 
 PLANT = """\
@@ -118,7 +125,7 @@ class Listeners(ConfCase):
     def test_json(self):
         found = self.found("--conf", "mosquitto.conf", "--port", "22101", "new.acl")
         self.assertEqual(found["conf"], {
-            "file": "mosquitto.conf", "port": 22101,
+            "file": "mosquitto.conf", "port": 22101, "users": None,
             "lists": {"22100": "plant.acl", "22101": "guests.acl", "22102": None},
             "connections": {"22100": 5, "22101": 5, "22102": 2}})
         self.assertEqual((found["current"], found["proposed"], found["rules"], found["sources"]),
@@ -159,6 +166,24 @@ class Listeners(ConfCase):
         """Each mark stands for one name, whatever that holds."""
         row = Row("x.acl", 1, "", True, None, "read", "%c/%u/%x")
         self.assertEqual(filled(row, Key(1, "a%c", "b%u")), "b%u/a%c/%x")
+
+    def test_lines_with_blanks(self):
+        """As mosquitto reads them, and mqroute-acl does."""
+        self.write("odd.acl", "  topic  read  a/+ \nuser  ops \n  user bob b\n"
+                   "   topic write \ty\n pattern read\n  topic deny z\r\n \n#topic c\n")
+        path = str(self.folder / "odd.acl")
+        found = [(row.line, row.is_pattern, row.user, row.access, row.filter)
+                 for row in rows_of(path, path)]
+        self.assertEqual(found, [(1, False, None, "read", "a/+"), (4, False, "bob b", "write", "y"),
+                                 (5, True, None, "readwrite", "read"),
+                                 (6, False, "bob b", "deny", "z")])
+        for user, topic, line in ((None, "a/b", 1), ("bob b", "y", 4), ("ops", "read", 5),
+                                  ("bob b", "z", 6)):
+            words = [] if user is None else ["--user", user]
+            shown = self.acl("why", "--json", "--rules", "mosquitto", *words, path, "c", topic)
+            rows = [json.loads(line) for line in shown.stdout.splitlines()]
+            self.assertIn(line, [one["line"] for row in rows
+                                 for one in (row["deny"], row["grant"]) if one])
 
     def test_own_bridges_are_under_no_list(self):
         self.write("bridge.acl", "topic read nothing\nuser plc\ntopic readwrite werk/#\n")
@@ -257,3 +282,112 @@ class Settings(ConfCase):
         found = json.loads(done.stdout)
         self.assertEqual((found["in_force"]["state"], found["conf"], len(found["said"])),
                          ("not in force", None, 1))
+
+
+class SetAside(ConfCase):
+    """Differences that a setting explains, and no others."""
+    PLACE = 50  # where a client resumed
+
+    def sets_aside(self, setting: str, ours: list[Copy], theirs: list[Copy], topic: str = "x",
+                   place: int = 60, client: str = "wall") -> bool:
+        self.write("mosquitto.conf", f"listener 1\nacl_file a\n{setting} true\n")
+        conf = read_conf(str(self.folder / "mosquitto.conf"))
+        reader = Recorder(None, None, Beginning(State()))
+        reader.resumptions["wall"].append(self.PLACE)
+        reader.qos_0.add("x")
+        found = ByConf(conf, conf.listeners[0], {}, None, reader=reader)
+        return found.sets_aside(Line(place, (client, topic), theirs, ours))
+
+    def test_what_waited(self):
+        """Of a client that resumes, and of a topic that is published with QoS 0."""
+        for setting, qos in (("queue_qos0_messages", 0), ("upgrade_outgoing_qos", 1)):
+            with self.subTest(setting=setting):
+                theirs = [Copy(qos, 0)]
+                self.assertTrue(self.sets_aside(setting, [], theirs))
+                for more in ({"topic": "y"}, {"client": "other"}, {"place": self.PLACE - 1},
+                             {"place": self.PLACE + SHORTLY}):
+                    self.assertFalse(self.sets_aside(setting, [], theirs, **more), more)
+                self.assertFalse(self.sets_aside(setting, [Copy(qos, 0)] * 2, theirs))
+                self.assertFalse(self.sets_aside("check_retain_source", [], theirs))
+        self.assertFalse(self.sets_aside("queue_qos0_messages", [], [Copy(1, 0)]))
+
+    def test_another_qos(self):
+        one, other = [Copy(0, 0)], [Copy(2, 0)]
+        self.assertTrue(self.sets_aside("upgrade_outgoing_qos", one, other, "y", 1))
+        self.assertFalse(self.sets_aside("queue_qos0_messages", one, other, "y", 1))
+
+
+class Passwords(ConfCase):
+    HASH = "$7$101$c2FsdA==$aGFzaA=="
+    NEW = NEW_GUESTS + "user vendr\ntopic read werk/x\npattern read notes\n"
+
+    def setUp(self) -> None:
+        super().setUp()
+        self.edited("acl_file guests.acl\n", "acl_file guests.acl\npassword_file /etc/pw\n")
+        self.passwords("vendor", "plc", "anna", "berta")
+        self.write("new.acl", self.NEW)
+
+    def passwords(self, *names: str) -> None:
+        self.write("pw", "# none\n" + "".join(f"{name}:{self.HASH}\n" for name in names))
+
+    def preview(self) -> dict:
+        return self.found("--conf", "mosquitto.conf", "--port", "22101", "new.acl")
+
+    def rows(self) -> list[str]:
+        lines = self.said("--port", "22101", "--html", "page", "new.acl")
+        self.assertNotIn(self.HASH[7:], "".join(lines) + (self.folder / "page").read_text("utf-8"))
+        return [line.strip() for line in lines]
+
+    def test_other_users_are_a_list_of_names(self):
+        rows = self.rows()
+        at = rows.index("may now read  notes")
+        self.assertEqual(rows[at - 1], "everybody")
+        self.passwords("vendor", "plc", "vendr", "anna")
+        self.write("new.acl", GUESTS + "user vendr\ntopic read nothing\npattern read notes\n")
+        self.assertIn("no user name; users plc, vendor, vendr, anna", self.rows())
+        self.assertNotIn("other users", " ".join(self.rows()))
+        self.assertEqual(self.preview()["conf"]["users"], ["vendor", "plc", "vendr", "anna"])
+
+    def test_a_name_that_is_mistyped(self):
+        self.assertIn("new.acl names 1 user that pw doesn't have: vendr (vendor?)",
+                      self.preview()["said"])
+        self.write("guests.acl", GUESTS + "user gast\ntopic read nothing\n")
+        said = self.preview()["said"]
+        self.assertIn("guests.acl names 1 user that pw doesn't have: gast", said)
+
+    def test_nobody_else(self):
+        """Where the lists name all users no right is of others."""
+        self.passwords("vendor", "plc", "vendr")
+        self.write("guests.acl", GUESTS + "pattern read x/%u\n")
+        self.write("new.acl", GUESTS + "user vendr\ntopic read nothing\n")
+        found = self.preview()
+        self.assertTrue(all(client["user"] not in client["placeholders"]
+                            for right in found["taken"] for client in right["clients"]))
+        self.assertIn("1 right of other users left out: the lists name all 3 users of pw",
+                      found["said"])
+
+    def test_not_known(self):
+        """Without the file, or where others connect."""
+        (self.folder / "pw").unlink()
+        (self.folder / "pw").mkdir()
+        found = self.preview()
+        self.assertIn("pw: Is a directory: who other users are isn't known", found["said"])
+        self.assertIsNone(found["conf"]["users"])
+        (self.folder / "pw").rmdir()
+        self.passwords("vendor", "anna")
+        self.write("mosquitto.conf", "listener 22101\nallow_anonymous true\nacl_file guests.acl\n"
+                   "password_file pw\nlog_dest file listeners.log\nlog_type all\n")
+        done = self.shown("--conf", "mosquitto.conf", "--no-check", "new.acl")
+        self.assertIn("edge connects in the log, whom pw doesn't have: who other users are isn't "
+                      "known", done.stdout)
+        self.assertIn("other users", done.stdout)
+
+    def test_names_by_certificate(self):
+        """Then no password is asked for."""
+        self.edited_again("password_file /etc/pw\n",
+                          "password_file /etc/pw\nuse_identity_as_username true\n")
+        self.assertIsNone(self.preview()["conf"]["users"])
+
+    def edited_again(self, old: str, new: str) -> None:
+        text = (self.folder / "mosquitto.conf").read_text("utf-8")
+        self.write("mosquitto.conf", text.replace(old, new))

@@ -112,6 +112,8 @@ class Page(Case):
             self.assertIsNone(re.search(r"\b(?:src|href|url|import)\b\s*[=(]|https?:", text))
             self.assertEqual(done.returncode, 0 if new == CURRENT else 1)
         self.assertIn("aria-label='hq loses all 2; dash loses 2 of 4 (50 %)'", text)
+        # a name has the room that the numbers leave: "−100 % of 2", and some between
+        self.assertIn("width='108' height='20' transform='translate(-108)'/>", text)
 
     def test_where_it_stands(self):
         """The commits of the lists, where they are in git; without git the page is made too."""

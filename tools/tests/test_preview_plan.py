@@ -160,8 +160,8 @@ class Renamed(Case):
         self.write("plan", "plant/+hall/energy -> site/+halle/energy\n")
         self.refused("plan:1: FROM has no +halle\n", *self.WORDS)
         self.write("plan", PLAN)
-        said = self.acl("compare", "--rules=mosquitto", "--plan=plan", "old.acl", "new.acl").stderr
-        self.refused(said, *self.WORDS[:-1], "mosquitto")
+        self.refused("--plan goes by mqroute's own rules alone: give --rules own",
+                     *self.WORDS[:-1], "mosquitto")
         self.refused("standard input can be read once", *self.WORDS[:-3], "-", "--begin", "-")
         self.refused("plan: it would overwrite plan, which is read too", *self.WORDS,
                      "--html", "plan")

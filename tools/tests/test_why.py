@@ -109,7 +109,7 @@ class Why(unittest.TestCase):
         for wanted, script, line, options in CASES:
             with self.subTest(wanted, script=script):
                 limits = {name: limit for name, limit in options.items() if name != "acl"}
-                case = check_why.Case(script, options.get("acl"), None, limits)
+                case = check_why.Case(script, options.get("acl"), "own", limits)
                 [answer] = case.answers(line, "c")
                 [cause] = answer.causes
                 said = cause.kind + (f" {cause.came}" if cause.came else "")
@@ -148,7 +148,7 @@ class Why(unittest.TestCase):
         """By mosquitto's a topic line decides before a pattern line."""
         (self.folder / "list").write_text("topic readwrite x\npattern deny x\n")
         script = [connect("c"), subscribe("c"), publish("c")]
-        for words, wanted in (([], "NotAuthorized"), (["--rules=own"], "NotAuthorized"),
+        for words, wanted in (([], "Sent"), (["--rules=own"], "NotAuthorized"),
                               (["--rules=mosquitto"], "Sent")):
             done = self.why(script, "--json", "--acl-file=list", *words, "script", "3", "c")
             self.assertEqual(json.loads(done.stdout)["cause"], wanted)

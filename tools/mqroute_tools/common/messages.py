@@ -45,6 +45,12 @@ def counted(number: int, things: str, form: str = "") -> str:
     return f"{number:{form}} {one_of(noun) if number == 1 else noun}{blank}{rest}"
 
 
+def numbered(text: str, number: int) -> str:
+    """`{} lines sent` with the number: `1 line sent`."""
+    before, _, things = text.partition("{} ")
+    return before + counted(number, things)
+
+
 def in_words(fault: BaseException) -> str:
     """`x: No such file or directory`, as other programs say it."""
     if isinstance(fault, OSError) and fault.strerror:

@@ -1,5 +1,6 @@
 """Temporary files and folders, of which none stays behind a signal."""
 import tempfile
+import weakref
 from collections.abc import Iterator
 from contextlib import contextmanager
 from pathlib import Path
@@ -10,10 +11,12 @@ from . import interrupt
 PREFIX = "mqroute-"
 
 
-def file() -> IO[bytes]:
-    """One with a name, as long as somebody has it."""
+def file(holder: object) -> IO[bytes]:
+    """One with a name, as long as its holder lives."""
     with interrupt.held():
-        return tempfile.NamedTemporaryFile(prefix=PREFIX)
+        made = tempfile.NamedTemporaryFile(prefix=PREFIX)
+        weakref.finalize(holder, made.close)
+        return made
 
 
 @contextmanager

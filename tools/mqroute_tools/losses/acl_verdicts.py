@@ -8,6 +8,7 @@ from dataclasses import dataclass
 from ..common.exit_status import Fault
 from ..common.tables import shown, user_shown
 from ..script.access_list import AccessList, Question, Verdict
+from ..script.rules import WHOSE
 from .causes import AFTER, BEFORE, Cause
 
 RUNS = ("before", "after")
@@ -46,7 +47,9 @@ class Lists:
         """Raises Fault where they are not the lists of these outputs."""
         if self.contradiction:
             swapped = " swapped?" if self.fit_swapped else ""
-            raise Fault(f"the lists don't fit the outputs:{swapped} {self.contradiction}")
+            whose = WHOSE[self.lists[BEFORE].rules]
+            raise Fault(f"by {whose} the lists don't fit the outputs:{swapped} "
+                        f"{self.contradiction}")
 
 
 def contradiction(name: str, asked: Question, says: bool, run: str, line: int) -> str:

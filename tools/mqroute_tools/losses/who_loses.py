@@ -12,6 +12,7 @@ from ..common.option_values import whole_number
 from ..common.texts import json_text
 from ..plan.topic_plan import read_plan
 from ..script.access_list import AccessList
+from ..script.rules import MOSQUITTO, RULES
 from . import html_page
 from .acl_verdicts import Lists
 from .by_plan import ByPlan
@@ -35,6 +36,8 @@ def add_arguments(parser: argparse.ArgumentParser) -> None:
                         help="with --acl-after: the lines of both lists that decide (by "
                         "mqroute-acl why), with the causes")
     parser.add_argument("--acl-after", metavar="FILE", help="the list of the second run")
+    parser.add_argument("--rules", choices=RULES, default=MOSQUITTO,
+                        help="by whose rules both runs decided (mosquitto)")
     parser.add_argument("--json", action="store_true", help="JSON, also where nothing changes")
     parser.add_argument("--plan", metavar="PLAN",
                         help="with --new: topics are renamed by this plan, and AFTER is of NEW")
@@ -74,7 +77,8 @@ def run(options: argparse.Namespace) -> int:
     losses = Losses(options.depth)
     lists = None
     if options.acl_before is not None:
-        lists = Lists(AccessList(options.acl_before), AccessList(options.acl_after))
+        lists = Lists(*(AccessList(name, options.rules)
+                        for name in (options.acl_before, options.acl_after)))
     if by_user or options.why or options.html is not None or lists:
         losses.reasons = Reasons(by_user, losses.gathered, lists)
     compare(losses, options.script, options.before, options.after)

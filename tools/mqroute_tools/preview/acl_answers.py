@@ -15,12 +15,9 @@ Asked = tuple[list[Json], list[str]]  # the objects of an answer, and what is no
 
 
 class Lists:
-    """The list that is in force and the one that is proposed, and by whose rules they are read.
+    """The list that is in force and the one that is proposed, and by whose rules they are read."""
 
-    Without rules they are mqroute's own, and `rights` notes where mosquitto decides otherwise.
-    """
-
-    def __init__(self, current: str, proposed: str, rules: str | None) -> None:
+    def __init__(self, current: str, proposed: str, rules: str) -> None:
         self.current = AccessList(current, rules)
         self.proposed = AccessList(proposed, rules)
         self.rules = rules
@@ -32,10 +29,9 @@ class Lists:
         """From here on the proposed list has new names by the plan, a file of another name."""
         self.plan, self.plan_name, self.names[plan] = [f"--plan={plan}"], name, named(name)
 
-    def asked(self, subcommand: str, words: list[str], quiet: bool = True) -> Asked:
+    def asked(self, subcommand: str, words: list[str]) -> Asked:
         """Raises Fault where mqroute-acl ends with another status than 0 and 1."""
-        rules = [f"--rules={self.rules or 'own'}"] if quiet or self.rules else []
-        given = [self.current.program, subcommand, "--json", *rules, *words]
+        given = [self.current.program, subcommand, "--json", f"--rules={self.rules}", *words]
         done = output_of(given, self.named)
         shown = [json.loads(line) for line in lines_of(done.stdout.decode("utf-8"))]
         notes = lines_of(self.named(done.stderr.decode("utf-8", "replace")))
@@ -65,7 +61,7 @@ class Lists:
         """The differences that `mqroute-acl compare` shows, each with all whom it concerns; the
         users whom a line names and about whom nothing is asked; and what it notes."""
         rows, notes = self.asked(
-            "compare", [*self.plan, "--", self.current.path, self.proposed.path], quiet=False)
+            "compare", [*self.plan, "--", self.current.path, self.proposed.path])
         known: dict[tuple[str, str, str, int, int], Right] = {}
         not_asked = [row["not_asked"] for row in rows if "not_asked" in row]
         for row in (row for row in rows if "not_asked" not in row):

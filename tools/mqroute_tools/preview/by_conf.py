@@ -7,20 +7,26 @@ from functools import partial
 
 from ..common.exit_status import Fault, UsageFault
 from ..common.messages import counted, named
+from ..common.tables import shown
 from ..conf.limits import left_out, refuse_dead_list, refuse_plugins, refuse_shared_ports
 from ..conf.mosquitto_conf import Conf, Listener
+from ..conf.password_names import names_of
 from ..conf.places import place_of
 from ..log.options import logs_by_conf
 from ..log.recording import Recorder
 from ..log.report_line import Line
 from ..losses.findings import Json
 from ..script.conf_file import read_conf_file
+from ..script.rules import OWN
 from .findings import Preview
 from .in_force import Found
 from .list_rows import rows_of
 from .listeners import OWN_BRIDGE, ClassLists, Classes, Listeners, Ported, Rows
+from .password_users import name_others
 
 NO_LIST = "no list"
+# By these a user name is what a certificate or a key has, and no password is asked for.
+NAMES_BY_CERTIFICATE = ("use_identity_as_username", "use_subject_as_username")
 
 
 @dataclass
@@ -32,6 +38,8 @@ class ByConf:
     classes: Classes | None  # None: all clients are under one list
     connections: dict[int, int] = field(default_factory=dict)  # in the log, by port
     said: list[str] = field(default_factory=list)  # of what its answers are, and leave out
+    reader: Recorder | None = None  # of the log
+    users: list[str] | None = None  # all of a password file; None: there may be any
 
     def recorder(self) -> "partial[Recorder] | type[Recorder]":
         if self.classes is None:
@@ -46,7 +54,7 @@ class ByConf:
         """Follows what the log shows. Raises Fault where a plugin decides for its clients."""
         used = [one for one in self.conf.listeners if reader.ports[one.port]]
         refuse_plugins(self.conf, used or self.conf.listeners)
-        self.connections = dict(sorted(reader.ports.items()))
+        self.reader, self.connections = reader, dict(sorted(reader.ports.items()))
         if len(self.conf.listeners) > 1:
             self.said.append("clients came by " + ", ".join(
                 f"port {port} ({counted(number, 'connections', ',')}, {self.list_name(port)})"
@@ -100,6 +108,38 @@ class ByConf:
         return any(self.conf.lets_anonymous(one) for one in self.conf.listeners
                    if one.port in self.replaced())
 
+    def password_file(self) -> str | None:
+        """The file that has the names of all users of the list; none where there may be others."""
+        files = {self.names_file(one) for one in self.conf.listeners
+                 if one.port in self.replaced()}
+        return files.pop() if len(files) == 1 else None
+
+    def names_file(self, listener: Listener) -> str | None:
+        setting = self.conf.security(listener).get("password_file")
+        if setting is None or self.conf.plugins_of(listener) or any(
+                listener.flag(word) for word in NAMES_BY_CERTIFICATE):
+            return None
+        return place_of(self.conf.path, setting.value)
+
+    def name_users(self, found: Preview) -> None:
+        """By the password file, where there is one."""
+        file = self.password_file()
+        if file is None:
+            return
+        unknown = "who other users are isn't known"
+        try:
+            users = names_of(file)
+        except Fault as fault:
+            found.said.append(f"{fault}: {unknown}")
+            return
+        strangers = sorted(self.reader.users.difference(users)) if self.reader else ()
+        if strangers and len(set(map(self.names_file, self.conf.listeners))) == 1:
+            found.said.append(f"{shown(strangers[0])} connects in the log, whom {named(file)} "
+                              f"doesn't have: {unknown}")
+            return
+        self.users = users
+        name_others(found, users, file)
+
     def leave_out(self, found: Preview) -> None:
         """Takes the rights of clients without a user name out, where none may connect."""
         if self.lets_anonymous():
@@ -115,22 +155,27 @@ class ByConf:
                               "left out: none may connect (allow_anonymous false)")
 
     def sets_aside(self, one: Found) -> bool:
-        """Whether a setting explains the difference: who is sent what is the same."""
+        """Whether a setting explains the difference: another QoS, or messages of QoS 0 that waited
+        for a client."""
         if not isinstance(one, Line):
             return False
-        if self.conf.all.flag("queue_qos0_messages") and not one.ours:
-            return all(copy.qos == 0 for copy in one.theirs)
-        return self.conf.all.flag("upgrade_outgoing_qos") and len(one.ours) == len(one.theirs)
+        upgrades = self.conf.all.flag("upgrade_outgoing_qos")
+        if upgrades and len(one.ours) == len(one.theirs):
+            return True
+        waits = upgrades or (self.conf.all.flag("queue_qos0_messages")
+                             and all(copy.qos == 0 for copy in one.theirs))
+        return waits and not one.ours and self.reader is not None and (
+            self.reader.may_have_waited(*one.key, one.place))
 
     def json(self) -> Json:
-        return {"file": self.conf.path, "port": self.target.port,
+        return {"file": self.conf.path, "port": self.target.port, "users": self.users,
                 "lists": {str(port): path for port, path in self.paths.items()},
                 "connections": {str(port): count for port, count in self.connections.items()}}
 
 
 def prepare(options: argparse.Namespace) -> ByConf:
     """Puts what the conf says in the place of arguments and options that aren't given."""
-    if options.rules == "own":
+    if options.rules == OWN:
         raise UsageFault("--conf goes by mosquitto's rules")
     if options.plan is not None:
         raise UsageFault("--plan goes by mqroute's own rules, and --conf by mosquitto's")
@@ -145,7 +190,6 @@ def prepare(options: argparse.Namespace) -> ByConf:
     if len(set(paths.values())) > 1 or conf.bridges:
         found.classes = Classes(found.rows())
     options.current, options.proposed, options.source = paths[target.port], proposed, logs
-    options.rules = "mosquitto"
     if options.max_queued is None:
         options.max_queued = conf.max_queued()
     return found
@@ -159,7 +203,7 @@ def path_of(conf: Conf, listener: Listener) -> str | None:
 def target_of(conf: Conf, paths: dict[int, str | None], port: int | None,
               proposed: str) -> Listener:
     """The listener whose list is to be replaced."""
-    def shown(ports: Iterable[int]) -> str:
+    def listed(ports: Iterable[int]) -> str:
         names = ((one, paths[one]) for one in ports)
         return ", ".join(f"port {one}: {named(path) if path else NO_LIST}" for one, path in names)
     if not any(paths.values()):
@@ -167,8 +211,8 @@ def target_of(conf: Conf, paths: dict[int, str | None], port: int | None,
                     "allowed to everybody: there is no list for "
                     f"{named(proposed)} to take the place of")
     if port is None and len(set(paths.values())) > 1:
-        raise Fault(f"{named(conf.path)}: {shown(paths)}: say by --port whose list is to be "
+        raise Fault(f"{named(conf.path)}: {listed(paths)}: say by --port whose list is to be "
                     "replaced")
     if port is not None and not paths.get(port):
-        raise Fault(f"{named(conf.path)}: no listener with a list on port {port}: {shown(paths)}")
+        raise Fault(f"{named(conf.path)}: no listener with a list on port {port}: {listed(paths)}")
     return next(one for one in conf.listeners if one.port == port or port is None)

@@ -93,6 +93,22 @@ class Client:
 
 
 @dataclass
+class Scope:
+    """What a right is of."""
+    filter: str  # of the line that grants it; of what the other list denies, what both match
+    but_for: list[str]  # of what these match nothing is said
+    in_part: bool  # some topics of the filter, and it isn't known which
+    publishes: int  # of the script, to topics of it
+    topic: str = ""  # one of it, with what stands for others in the place of their levels
+    published: int = 0  # how often the script publishes to that
+
+    def json(self) -> Json:
+        such_as = {"topic": self.topic, "publishes": self.published} if self.topic else None
+        return {"filter": self.filter, "but_for": self.but_for, "in_part": self.in_part,
+                "such_as": such_as, "publishes": self.publishes}
+
+
+@dataclass
 class Right:
     """One difference as `mqroute-acl compare` has it."""
     change: str  # gained or lost
@@ -103,6 +119,8 @@ class Right:
     new_topic: str | None = None  # by a plan, with the rule that decides; None without one
     rule: Line | None = None
     known: list[str] = field(default_factory=list)  # users whom the lists name
+    others: list[str] | None = None  # and all others that there are; None: there may be any
+    scope: Scope | None = None  # none by a plan
 
     def is_new_write(self) -> bool:
         return self.change == GAINED and self.access == "write"
@@ -111,7 +129,7 @@ class Right:
         found = {"access": self.access, "topic": self.topic, **asdict(self.deciding),
                  "clients": [asdict(client) for client in self.clients]}
         if self.new_topic is None:
-            return found
+            return found | (self.scope.json() if self.scope else {})
         return found | {"new_topic": self.new_topic, "rule": self.rule and asdict(self.rule)}
 
 

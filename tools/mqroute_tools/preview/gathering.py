@@ -6,12 +6,12 @@ from dataclasses import dataclass
 from pathlib import Path
 
 from ..common.exit_status import Fault
-from ..common.files import at, plain_file
+from ..common.files import at
 from ..common.messages import counted, named, note, say
 from ..common.programs import output_of
 from ..common.progress import Progress
 from ..common.second_process import meanwhile
-from ..log.recording import Recorder, compared as compared_with_log
+from ..log.recording import Recorder, compared as compared_with_log, uncollected
 from ..losses import acl_verdicts
 from ..losses.comparison import Losses, compare, findings
 from ..losses.findings import Totals
@@ -19,16 +19,18 @@ from ..losses.report_rows import Reasons
 from ..plan.topic_plan import read_plan
 from ..script.access_list import AccessList
 from ..script.oracle import found_program
+from ..script.rules import MOSQUITTO
 from .acl_answers import Lists
 from .by_conf import ByConf
 from .findings import (
     GAINED, LOST, Cause, Preview, RefusedRow, Remark, Right, Subscription, UserRow)
 from .in_force import Check, NoAnswer, judged, not_asked_for
 from .kept_folder import AFTER, BEFORE, CHECKED, NEW, SCRIPT
-from .list_rows import rows_of
+from .list_rows import users_of
 from .plan_losses import PlanLosses
 from .reload import reload_of
 from .renaming import Renaming, plan_file
+from .scopes import add_scopes
 from .script_facts import ScriptFacts, facts_of
 from .sources import Script, script_of, sources_of
 from .user_rows import refused_rows, user_rows
@@ -79,7 +81,8 @@ def preview_of(options: argparse.Namespace, folder: Path) -> Preview:
     line of a list. What is noted goes to standard error."""
     steps = Steps(STEPS if options.plan is None else BY_PLAN)
     try:
-        return gathered(options, folder, steps)
+        with uncollected():
+            return gathered(options, folder, steps)
     finally:
         steps.clear()
 
@@ -94,7 +97,7 @@ def gathered(options: argparse.Namespace, folder: Path, steps: Steps) -> Preview
     answers = asked_first(lists, steps)
     steps.next()
     script = script_of(options, sources, folder, steps.clear)
-    lists = tried_by(options, lists, script)
+    asked, lists = lists, tried_by(options, lists, script)
     lists.names[script.path] = script.name
     renaming = None
     if plan is not None:
@@ -105,9 +108,12 @@ def gathered(options: argparse.Namespace, folder: Path, steps: Steps) -> Preview
     steps.clear()
     found = put_together(options, lists, script, renaming, answers, differences)
     found.check, found.said = check, said_of(options, script)
-    found.conf = options.by_conf and options.by_conf.json()
     if options.by_conf:
         options.by_conf.leave_out(found)
+        options.by_conf.name_users(found)
+        found.conf = options.by_conf.json()
+    if plan is None:
+        add_scopes(asked, found)
     return found
 
 
@@ -192,15 +198,9 @@ def said_of(options: argparse.Namespace, script: Script) -> list[str]:
 
 def of_rules(options: argparse.Namespace) -> list[str]:
     """Why a right list may look like a wrong one."""
-    if options.rules == "mosquitto" or options.plan is not None:
+    if options.rules == MOSQUITTO or options.plan is not None:
         return []
     return ["this was asked by mqroute's own rules: --rules mosquitto asks by the broker's"]
-
-
-def users_of(name: str) -> list[str]:
-    """Whom the list names; nobody where it isn't a file."""
-    rows = rows_of(name, name) if plain_file(name) else []
-    return list(dict.fromkeys(row.user for row in rows if row.user))
 
 
 def absent_users(name: str, reader: Recorder) -> list[str]:
@@ -247,7 +247,7 @@ def asked_first(lists: Lists, steps: Steps) -> Answers:
 def run(options: argparse.Namespace, lists: Lists, one: AccessList, script: str,
         output: Path) -> None:
     """mqroute, on the script, under one of the lists."""
-    words = [found_program(), f"--acl-file={one.path}", f"--rules={options.rules or 'own'}"]
+    words = [found_program(), f"--acl-file={one.path}", f"--rules={options.rules}"]
     words += [f"--{name.replace('_', '-')}={getattr(options, name)}" for name in LIMITS
               if getattr(options, name) is not None]
     with open(output, "xb") as out:
@@ -298,7 +298,7 @@ def put_together(options: argparse.Namespace, lists: Lists, script: Script,
     granted, taken = ([one for one in answers.rights if one.change == change]
                       for change in (GAINED, LOST))
     found = Preview(
-        options.current, options.proposed, options.source, options.rules or "own",
+        options.current, options.proposed, options.source, options.rules,
         later_name(options, script), differences.users, differences.refused, granted, taken,
         answers.subscriptions, answers.remarks, differences.totals, answers.notes,
         answers.not_asked)
@@ -319,7 +319,7 @@ def put_together(options: argparse.Namespace, lists: Lists, script: Script,
     command = WhyCommand(options, why_script(options, found) if is_file else None, publishes)
     for cause in found.causes():
         cause.command = command.of(cause)
-        if script.reading is not None and renaming is None:
+        if script.reading is not None:
             cause.log = script.reading.where(cause.lines[0].line)
     return found
 

@@ -1,12 +1,14 @@
 """The lines of an access list of which mosquitto takes each, as it reads them."""
+import re
 from dataclasses import dataclass
 from pathlib import Path
 
-from ..common.files import decoded
+from ..common.files import decoded, plain_file
 from ..script.access_list import Line
 
 ACCESSES = ("read", "write", "readwrite", "deny")
 BLANKS = " \t\v\f\r"  # that are taken off the end of a line
+MARK = re.compile("%[cu]")  # of a `pattern` line
 
 
 @dataclass(frozen=True)
@@ -33,7 +35,7 @@ def rows_of(path: str, name: str) -> list[Row]:
     text = decoded(Path(path).read_bytes(), name)
     for number, whole in enumerate(text.split("\n"), 1):
         line = whole.rstrip(BLANKS)
-        word, _, rest = line.partition(" ")
+        word, _, rest = line.lstrip(" ").partition(" ")
         if line.startswith("#") or not line:
             continue
         if word == "user":
@@ -50,5 +52,11 @@ def access_and_filter(rest: str) -> tuple[str, str]:
     """A word alone is the filter."""
     access, blank, wanted = rest.partition(" ")
     if blank and access in ACCESSES:
-        return access, wanted.lstrip(" ")
+        return access, wanted.lstrip(BLANKS)
     return "readwrite", rest
+
+
+def users_of(name: str) -> list[str]:
+    """Whom the list names; nobody where it isn't a file."""
+    rows = rows_of(name, name) if plain_file(name) else []
+    return list(dict.fromkeys(row.user for row in rows if row.user))

@@ -5,7 +5,6 @@ By mosquitto's rules a client is decided by the `topic` lines of its user name, 
 `pattern` lines. So a class is a listener and a user name, and where the listener's list has
 `pattern` lines the client too: these become `topic` lines with its names in them.
 """
-import re
 from collections.abc import Iterable
 from typing import Any, NamedTuple
 
@@ -19,12 +18,12 @@ from ..log.recording import Recorder
 from ..plan.filters import levels, meet
 from ..script.access_list import AccessList, Line
 from ..script.output import Command
+from ..script.rules import MOSQUITTO
 from .acl_answers import Lists
-from .list_rows import BLANKS, Row
+from .list_rows import BLANKS, MARK, Row
 
 OWN_BRIDGE = -1  # in place of a port: of the broker's own bridges no list is asked
 UNKNOWN = 0
-MARK = re.compile("%[cu]")
 EVERYTHING = ("topic readwrite #", "topic readwrite $SYS/#")
 
 Rows = list[Row] | None  # None: there is no list, so everything is allowed
@@ -197,7 +196,7 @@ class ClassLists(Lists):
         self.current, self.proposed = (
             ClassList(name, *classes.list_of(lists))
             for name, lists in zip(names, (current, proposed)))
-        self.rules: str | None = "mosquitto"
+        self.rules = MOSQUITTO
         self.plan: list[str] = []
         self.plan_name = ""
         self.names = {one.path: named(one.name) for one in (self.current, self.proposed)}

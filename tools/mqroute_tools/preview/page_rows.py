@@ -11,14 +11,15 @@ from .findings import (
 from .gathered_topics import Topics
 from .page_tables import Column, cell, head_cell, number, row, table
 from .words import (
-    NO_LINE, NO_RULE, OTHERWISE, client_of, concerned, example_of, may, share, topic_count,
-    topic_of, whom)
+    NO_LINE, NO_RULE, OTHERWISE, but_for, client_of, concerned, example_of, may, publishes_of,
+    share, topic_count, topic_of, whom)
 
 USERS = (Column("User"), Column("Clients", True), Column("Before", True), Column("After", True),
          Column("Lost", True), Column("Gained", True), Column("Topics"))
 REFUSED = (Column("User"), Column("Clients", True), Column("Refused", True),
            Column("No longer", True), Column("Topics"))
-RIGHTS = (Column("Who"), Column("What"), Column("Topic, for example"), Column("Line that decides"))
+RIGHTS = (Column("Who"), Column("What"), Column("Topics"), Column("Line that decides"))
+MOST_ON_PAGE = 40  # user names that a right is of
 COUNTED = {"lost": "messages lost", "gained": "messages gained", "refused": "publishes refused",
            "accepted": "publishes no longer refused", "changed": f"messages with {OTHERWISE}"}
 
@@ -93,10 +94,9 @@ class Rows:
     def right(self, one: Right) -> str:
         notes = client_of(one)
         more = f"<div class='placeholders'>{escaped(notes)}</div>" if notes else ""
-        return row((head_cell(f"<bdi>{escaped(concerned(one, None))}</bdi>"),
+        return row((head_cell(f"<bdi>{escaped(concerned(one, MOST_ON_PAGE))}</bdi>"),
                     cell(may(one), f"may {warning(one)}"),
-                    cell(f"{example_of(one)}<code><bdi>{visible(topic_of(one))}</bdi></code>{more}",
-                         "topic"),
+                    cell(topics_of(one) + more, "topic"),
                     cell(self.deciding(one.deciding, self.rule(one)), "lines")))
 
     def subscriptions(self) -> str:
@@ -131,6 +131,18 @@ class Rows:
         where = "the list" if one.line is None else escaped(at(self.found.proposed, one.line))
         text = f"<code><bdi>{escaped((one.text or '').strip())}</bdi></code>" if one.text else ""
         return row((head_cell(f"<bdi>{where}</bdi>"), cell(text), cell(escaped(one.words))))
+
+
+def topics_of(right: Right) -> str:
+    """Those that the right is of, and below them one."""
+    scope = right.scope
+    if scope is None:
+        return example_of(right) + code(topic_of(right))
+    words = f"{'some of ' if scope.in_part else ''}{code(scope.filter)}{but_for(scope, code)}"
+    if not scope.topic:
+        return words
+    number = publishes_of(scope).strip().replace(" ", "\u00a0")  # in one line
+    return f"{words}<div class='such-as'>such as {code(scope.topic)} {number}</div>"
 
 
 def warning(right: Right) -> str:

@@ -7,16 +7,17 @@ time { white-space: nowrap }
 border-left: .3rem solid var(--changed); overflow-wrap: anywhere }
 #verdict.loss { border-color: var(--lost) }
 #verdict.none { border-color: var(--kept) }
+.said { padding-left: 1.2rem; overflow-wrap: anywhere }
 .notes { font-size: .9rem; color: var(--dim); padding-left: 1.2rem }
-.kept { fill: var(--kept) }
+.kept { fill: var(--kept) } .cover { fill: var(--back) }
 .key { display: inline-block; width: .8em; height: .8em; margin-left: .7em; \
 background: var(--gained) }
 .key.kept { background: var(--kept); margin-left: 0 } .key.lost { background: var(--lost) }
 #picture { margin-bottom: 1rem }
 #granted, #taken { table-layout: fixed }
-#granted th:nth-child(2), #taken th:nth-child(2) { width: 19% } \
-#granted th:nth-child(3), #taken th:nth-child(3) { width: 25% } \
-#granted th:nth-child(4), #taken th:nth-child(4) { width: 36% }
+#granted th:nth-child(2), #taken th:nth-child(2) { width: 20% } \
+#granted th:nth-child(3), #taken th:nth-child(3) { width: 30% } \
+#granted th:nth-child(4), #taken th:nth-child(4) { width: 34% }
 caption { text-align: left; color: var(--dim); padding-bottom: .3rem; overflow-wrap: anywhere }
 th, td { text-align: left; vertical-align: top; overflow-wrap: anywhere } \
 thead th { overflow-wrap: normal }
@@ -34,7 +35,7 @@ summary:hover { color: var(--text) }
 margin: .15rem 0 }
 .decides dt { color: var(--dim); overflow-wrap: anywhere } .decides dd { margin: 0 }
 .topics { list-style: none; margin: 0; padding: 0 } .topics li { margin: 0 }
-.topics span, .placeholders { color: var(--dim); font-size: .9rem }
+.topics span, .placeholders, .such-as { color: var(--dim); font-size: .9rem }
 .command code { display: block; padding: .25rem .5rem; white-space: pre-wrap }
 #summary { margin-top: 2rem; font-weight: 600 }
 @media (max-width: 720px) {

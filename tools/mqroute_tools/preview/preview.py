@@ -21,7 +21,7 @@ from ..common.option_values import port, whole_number
 from ..common.terminal import standard_output
 from ..common.texts import json_text
 from ..log.options import add_log_options
-from ..script.oracle import RULES
+from ..script.rules import MOSQUITTO, RULES
 from . import kept_folder
 
 if TYPE_CHECKING:
@@ -44,8 +44,8 @@ def add_arguments(parser: argparse.ArgumentParser) -> None:
                         "force: lists, listeners, the log and more")
     parser.add_argument("--port", type=port, metavar="N", help="with --conf: the listener whose "
                         "list PROPOSED replaces, where they have different ones")
-    parser.add_argument("--rules", choices=RULES,
-                        help="by whose rules lists are read, and decide (own)")
+    parser.add_argument("--rules", choices=RULES, default=MOSQUITTO,
+                        help="by whose rules lists are read, and decide (mosquitto)")
     parser.add_argument("--plan", metavar="PLAN", help="topics are renamed by this plan, and "
                         "the proposed list has new names")
     parser.add_argument("--html", metavar="FILE", help="write a page, too")
@@ -71,6 +71,8 @@ def check(options: argparse.Namespace) -> None:
         raise UsageFault("--port needs --conf")
     elif not options.source:
         raise UsageFault("needs CURRENT, PROPOSED, and a script or logs; or --conf and PROPOSED")
+    if options.plan is not None and options.rules == MOSQUITTO:
+        raise UsageFault("--plan goes by mqroute's own rules alone: give --rules own")
     if options.title is not None and options.html is None:
         raise UsageFault("--title needs --html")
     read = [options.current, options.proposed, *options.source, options.begin, options.plan,

@@ -12,8 +12,8 @@ from .findings import (
     Carried, Cause, Deciding, Preview, RefusedRow, Remark, Right, Subscription, UserRow)
 from .gathered_topics import Topics
 from .words import (
-    CARRIED, NO_LINE, NO_RULE, NOT_ASKED, changes, client_of, concerned, example_of, may, refusals,
-    summary, topic_count, topic_of, tried, verb, whom)
+    CARRIED, NO_LINE, NO_RULE, NOT_ASKED, changes, client_of, concerned, may, refusals, scope_of,
+    summary, topic_count, tried, verb, whom)
 
 ROWS = 20  # of each section
 CAUSES, TOPICS = 6, 4  # of each row
@@ -146,8 +146,8 @@ class Report:
     def right(self, right: Right) -> Iterator[str]:
         colour = YELLOW if right.is_new_write() else PAINT[right.change]
         yield from self.out.fitted([concerned(right)], "  ")
-        topic = f"{example_of(right)}{shown(topic_of(right))}"
-        parts = [f"{may(right)}  {topic}", client_of(right)]
+        topics, *such_as = scope_of(right)
+        parts = [f"{may(right)}  {topics}", *such_as, client_of(right)]
         for line in self.out.fitted(parts, "    "):
             yield self.out.painted(colour, line)
         plan = self.found.plan

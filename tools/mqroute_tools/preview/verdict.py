@@ -50,6 +50,8 @@ def who(right: Right) -> str:
 
 def filter_of(right: Right) -> str:
     """That of the line that grants it, or of the topic where none does."""
+    if right.scope:
+        return shown(right.scope.filter)
     line = right.deciding.proposed
     words = line.text.split() if line else []
     if len(words) > 2 and words[1] in ACCESSES:

@@ -34,9 +34,8 @@ class WhyCommand:
         # by the lines that causes have, those of the script
         self.publishes = publishes
         self.script = script
-        self.words = ["mqroute-why", "--acl-file", file_word(options.proposed)]
-        if options.rules:
-            self.words += ["--rules", options.rules]
+        self.words = ["mqroute-why", "--acl-file", file_word(options.proposed), "--rules",
+                      options.rules]
         for name in LIMITS:
             if getattr(options, name) is not None:
                 self.words += [f"--{name.replace('_', '-')}", str(getattr(options, name))]

@@ -1,15 +1,16 @@
 """The words for what a preview finds, in the text and on the page."""
-from collections.abc import Iterable
+from collections.abc import Callable, Iterable
 
 from ..common.messages import counted
 from ..common.tables import shown, user_shown
-from .findings import GAINED, Client, Preview, RefusedRow, Right, UserRow
+from ..script.rules import WHOSE
+from .findings import GAINED, Client, Preview, RefusedRow, Right, Scope, UserRow
 from .gathered_topics import Topics
 
 MOST_NAMES = 4  # of user names that a right is of
+MOST_FILTERS = 3  # that narrow a right
 MOST_ABSENT = 3  # of those whom it isn't of, where it is of nearly everybody
 NO_NAME = "clients without a user name"
-RULES = {"own": "mqroute's own rules", "mosquitto": "mosquitto's rules"}
 NO_LINE, NO_RULE = "no line allows it", "no line is about it"
 CARRIED = "What the plan can't carry over as it is"
 NOT_ASKED = "Users that a line names and whose rights aren't known (their names hold /, + or #)"
@@ -87,7 +88,7 @@ def unknown(found: Preview) -> str:
 def tried(found: Preview) -> str:
     """On how much it was tried, and by whose rules."""
     return (f"{counted(found.facts.clients, 'clients', ',')}, "
-            f"{counted(found.facts.publishes, 'publishes', ',')}; by {RULES[found.rules]}")
+            f"{counted(found.facts.publishes, 'publishes', ',')}; by {WHOSE[found.rules]}")
 
 
 # -- rights, as mqroute-acl compare words them
@@ -102,19 +103,20 @@ def names(clients: Iterable[Client]) -> list[str]:
             if one.user is not None and not one.is_any_user()]
 
 
-def concerned(right: Right, most: int | None = MOST_NAMES) -> str:
-    """Whom a right is of: `most` user names, or all."""
+def concerned(right: Right, most: int = MOST_NAMES) -> str:
+    """Whom a right is of: `most` user names."""
     named = names(right.clients)
     absent = [user for user in right.known if user not in named]
-    if len(named) > MOST_NAMES and len(absent) <= MOST_ABSENT and any(
-            one.is_any_user() for one in right.clients):
+    has_others = any(one.is_any_user() for one in right.clients)
+    named += map(shown, right.others or ()) if has_others else ()
+    if len(named) > MOST_NAMES and len(absent) <= MOST_ABSENT and has_others:
         return all_but(absent, any(one.user is None for one in right.clients))
     parts = ["no user name"] if any(one.user is None for one in right.clients) else []
     if named:
-        more = f" and {len(named) - most:,} more" if most and len(named) > most else ""
+        more = f" and {len(named) - most:,} more" if len(named) > most else ""
         users = "user" if len(named) == 1 else "users"
         parts.append(f"{users} {', '.join(named[:most])}{more}")
-    if any(one.is_any_user() for one in right.clients):
+    if has_others and right.others is None:
         parts.append("other users")
     return "; ".join(parts)
 
@@ -155,6 +157,30 @@ def example_of(right: Right) -> str:
     lines = right.deciding.current, right.deciding.proposed, right.rule
     several = all("+" in line.text or "#" in line.text for line in lines if line)
     return "for example " if several else ""
+
+
+def but_for(scope: Scope, name: Callable[[str], str]) -> str:
+    """Behind the filter, of which it leaves something out."""
+    if not scope.but_for:
+        return ""
+    first, rest = scope.but_for[:MOST_FILTERS], len(scope.but_for) - MOST_FILTERS
+    more = f" and {rest:,} more" if rest > 0 else ""
+    return f", but for {', '.join(map(name, first))}{more}"
+
+
+def publishes_of(scope: Scope) -> str:
+    """Behind the topic, if the script has it."""
+    return f" ({counted(scope.published, 'publishes', ',')})" if scope.published else ""
+
+
+def scope_of(right: Right) -> list[str]:
+    """Which topics a right is of, and one of them."""
+    scope = right.scope
+    if scope is None:
+        return [f"{example_of(right)}{shown(topic_of(right))}"]
+    words = f"{'some of ' if scope.in_part else ''}{shown(scope.filter)}{but_for(scope, shown)}"
+    such_as = f"such as {shown(scope.topic)}{publishes_of(scope)}" if scope.topic else ""
+    return [words, such_as]
 
 
 def client_of(right: Right) -> str:

@@ -12,6 +12,7 @@ from ..common.files import STDIN, open_input, plain_file
 from ..common.messages import named
 from ..common.programs import find_program, output_of
 from ..common.texts import escaped, lines
+from .rules import MOSQUITTO
 
 NO_LINE = "no line allows it"
 REFUSED = "mosquitto refuses it, whatever the list says"
@@ -58,20 +59,20 @@ class AccessList:
     """One list, a file or a text of that name. It is asked once for each user name and topic, and
     client if it has a `%c`, or goes by mosquitto's rules."""
 
-    def __init__(self, name: str, rules: str | None = None, text: bytes | None = None) -> None:
-        self.name, self.path = name, name
+    def __init__(self, name: str, rules: str = MOSQUITTO, text: bytes | None = None) -> None:
+        self.name, self.path, self.rules = name, name, rules
         self.program = find_program("MQROUTE_ACL_PROGRAM", "mqroute-acl")
-        self.options = [f"--rules={rules or 'own'}"]  # named, so that it notes nothing
+        self.options = [f"--rules={rules}"]
         is_file = text is None and name != STDIN and plain_file(name)
         if text is None:
             with open_input(name) as stream:
                 text = stream.read()
         if not is_file:  # the program reads it each time
-            self.copy = temporary.file()
+            self.copy = temporary.file(self)
             self.copy.write(text)
             self.copy.flush()
             self.path = self.copy.name
-        self.by_client = CLIENT_MARK in text or rules == "mosquitto"
+        self.by_client = CLIENT_MARK in text or rules == MOSQUITTO
         self.known: dict[tuple[str | None, str | None, str], dict[str, Verdict]] = {}
 
     def verdict(self, asked: Question) -> Verdict:

@@ -9,6 +9,7 @@ from .output import Command
 MARK = "Z"  # around what is counted
 MEANT = ("", "+", "#", "%c", "%u")  # levels that stand for something
 FIRST = ("$share", "$SYS")  # and those that do where they are the first
+MARKED = re.compile(r"Z[0-9a-f]{8}Z\d+Z")  # as Marks makes them
 LETTER = re.compile(r"%[cu]|[^\W\d_]")  # a mark of access lists is none
 # What stands before the name in a line of an access list, and the name.
 NAMED_LINE = re.compile(
@@ -27,6 +28,11 @@ class Marks:
     def next(self) -> str:
         self.count += 1
         return f"{MARK}{self.run}{MARK}{self.count}{MARK}"
+
+
+def marks_of(name: str) -> set[str]:
+    """Those that scripts were given, which stand in the name."""
+    return set(MARKED.findall(name))
 
 
 def fresh_name(name: str, mark: str) -> str:

@@ -35,7 +35,7 @@ class Access:
         return f"{self.name()}, line {line.line}" if self.line else f"{line.file}:{line.line}"
 
 
-def access_at(history: History, given: AccessList | None, rules: str | None) -> Access:
+def access_at(history: History, given: AccessList | None, rules: str) -> Access:
     """The list that a line of the script set, or else that of --acl-file."""
     if not history.list_line:
         return Access(given)

@@ -25,11 +25,9 @@ class Runs:
     def __init__(self, options: argparse.Namespace, script: Script,
                  given: AccessList | None) -> None:
         self.script, self.given = script, given
-        self.words = [found_program()]
+        self.words = [found_program(), f"--rules={options.rules}"]
         if given is not None:
             self.words.append(f"--acl-file={given.path}")
-        if options.rules is not None:
-            self.words.append(f"--rules={options.rules}")
         self.limits = {"max-retained": options.max_retained, "max-queued": options.max_queued}
 
     def answers(self, script: Iterable[bytes], first: int = 1,

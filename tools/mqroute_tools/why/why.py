@@ -18,7 +18,7 @@ from ..log.options import (
     NAMES, add_conf_option, add_log_options, given_options, logs_by_conf)
 from ..script.access_list import AccessList
 from ..script.conf_file import read_conf_file
-from ..script.oracle import RULES
+from ..script.rules import MOSQUITTO, RULES
 from .answering import answered
 from .causes import Answer, as_object, lines_of
 from .lines import Question, read_script
@@ -34,8 +34,9 @@ def add_arguments(parser: argparse.ArgumentParser) -> None:
     parser.add_argument("line", nargs="?", type=whole_number(1), help="of a publish in the script")
     parser.add_argument("client", nargs="?", help="without it, each that has connected by then")
     parser.add_argument("--client", metavar="CLIENT", dest="named", help="the same")
-    parser.add_argument("--acl-file", metavar="FILE", help="as for mqroute, as are the next three")
-    parser.add_argument("--rules", choices=RULES)
+    parser.add_argument("--acl-file", metavar="FILE", help="as for mqroute")
+    parser.add_argument("--rules", choices=RULES, default=MOSQUITTO,
+                        help="by whose rules lists are read, and decide (mosquitto)")
     for name in ("--max-retained", "--max-queued"):
         parser.add_argument(name, type=whole_number(0, MOST), metavar="N")
     parser.add_argument("--json", action="store_true", help="a JSON object on each line")
@@ -51,7 +52,6 @@ def take_conf(options: argparse.Namespace) -> None:
     """What it says, in place of options that aren't given."""
     conf = read_conf_file(options.conf)
     options.log = logs_by_conf(options, conf, options.log or [])
-    options.rules = options.rules or "mosquitto"
     if options.acl_file is None:
         options.acl_file = only_list(conf)
     if options.max_queued is None:
