@@ -106,14 +106,15 @@ def words_of(program: str, question: str, what: str, old: pathlib.Path, second: 
         rules = lists.plant_plan() if what == PLANT else lists.plan()
         plan.write_text("\n".join(rules) + "\n")
         return [program, "compare", "--rules", "own", "--plan", str(plan), str(old), str(second)]
+    begun = [program, question, "--rules", "own"]
     if question == "who" and asked is not None:
-        return [program, "who", str(old), asked[0]]
+        return [*begun, str(old), asked[0]]
     if question == "test":
-        return [program, "test", str(second), str(old)]
+        return [*begun, str(second), str(old)]
     if asked is None:
-        return [program, question, str(old)]
+        return [*begun, str(old)]
     option = ["--script"] if question == "reach" else []
-    return [program, question, str(old), *option, str(second)]
+    return [*begun, str(old), *option, str(second)]
 
 
 def limited() -> None:

@@ -229,18 +229,15 @@ MISUSED = [
 ]
 
 
-def noted(words):
-    """What is noted beside the answer: mosquitto allows the same by both lists."""
-    if words[0] != "lint":
-        return ""
-    return (f"{words[-1]}: mosquitto 2.0 allows the same to client ids and user names without /, + "
-            "and #\n")
+def by_own(words):
+    """The same, by our own rules."""
+    return [words[0], "--rules", "own", *words[1:]]
 
 
 def faults_of_walk():
     for words, status, wanted in WALK:
-        done = run(words, EXAMPLE)
-        if (done.returncode, done.stdout, done.stderr) != (status, wanted, noted(words)):
+        done = run(by_own(words), EXAMPLE)
+        if (done.returncode, done.stdout, done.stderr) != (status, wanted, ""):
             yield f"{' '.join(words)}: status {done.returncode}\n{done.stdout}{done.stderr}"
 
 
@@ -251,9 +248,9 @@ def faults_of_input():
         for place in (n for n, word in enumerate(words) if word.endswith((".acl", ".jsonl"))):
             name = words[place].removeprefix("--script=")
             asked = [*words[:place], words[place].replace(name, "-"), *words[place + 1:]]
-            done = run(asked, EXAMPLE, given=(EXAMPLE / name).read_text())
+            done = run(by_own(asked), EXAMPLE, given=(EXAMPLE / name).read_text())
             if (done.returncode, done.stdout.split(), done.stderr) != (
-                    status, wanted.replace(name, "-").split(), noted(asked)):
+                    status, wanted.replace(name, "-").split(), ""):
                 yield f"{' '.join(asked)}: status {done.returncode}\n{done.stdout}{done.stderr}"
 
 
@@ -271,21 +268,19 @@ def faults_of_several(folder):
             "-": missing + RELOAD.format("-") + "\n"}
     for names in (["b.acl"], ["b.acl", "b.acl"], ["a.acl", "-"], ["-", "a.acl"],
                   ["b.acl", "a.acl", "b.acl"], ["a.acl", "b.acl"]):
-        done = run(["lint", *names], folder, files["-"])
+        done = run(by_own(["lint", *names]), folder, files["-"])
         dropped = [name for name in names if name != "b.acl"]
-        # of a list that mosquitto drops nothing is noted beside that
-        last = (DROPPED.format(dropped[0]) if dropped
-                else "b.acl: mosquitto 2.0 allows the same\n" * len(names))
+        last = DROPPED.format(dropped[0]) if dropped else ""
         if (done.returncode, done.stdout, done.stderr) != (
                 2 if dropped else 0, "".join(said[name] for name in names), last):
             yield f"lint {' '.join(names)}: status {done.returncode}:\n{done.stdout}{done.stderr}"
     for names in (["a.acl", "c.acl"], ["c.acl", "a.acl"]):
-        done = run(["lint", *names], folder)
+        done = run(by_own(["lint", *names]), folder)
         if (done.returncode, done.stdout, done.stderr) != (
                 2, "", f"mqroute-acl: c.acl: {NO_FILE}\n"):
             yield f"lint {' '.join(names)}: status {done.returncode}:\n{done.stdout}{done.stderr}"
     pathlib.Path(folder, "-").write_text("\ntopic\n")
-    done = run(["lint", "./-"], folder)
+    done = run(by_own(["lint", "./-"]), folder)
     wanted = f"./-:2: the topic is missing\n    topic\n{RELOAD.format('./-')}\n"
     if (done.returncode, done.stdout, done.stderr) != (2, wanted, DROPPED.format("./-")):
         yield f"lint ./-: status {done.returncode}:\n{done.stdout}{done.stderr}"
@@ -293,12 +288,12 @@ def faults_of_several(folder):
 
 def faults_of_remarks(folder):
     pathlib.Path(folder, "a.acl").write_text(REMARKED)
-    done = run(["lint", "a.acl"], folder)
+    done = run(by_own(["lint", "a.acl"]), folder)
     wanted = f"{REMARKS}{RELOAD.format('a.acl')}\n"
     if (done.returncode, done.stdout, done.stderr) != (2, wanted, DROPPED.format("a.acl")):
         yield f"lint: status {done.returncode}:\n{done.stdout}{done.stderr}"
     pathlib.Path(folder, "a.acl").write_text(NEEDLESS)
-    done = run(["lint", "--json", "a.acl"], folder)
+    done = run(by_own(["lint", "--json", "a.acl"]), folder)
     shown = [(each["line"], each["words"]) for each in map(json.loads, done.stdout.splitlines())]
     needless = "needless: without it the list allows the same"
     # each of the last three by itself, and all: without them nothing below c is granted
@@ -313,7 +308,7 @@ def faults_of_refusals(folder):
         for words in (["compare", "a.acl", "a.acl"], ["why", "a.acl", "c", "t"]):
             if len(text) > 300 and words[0] == "why":
                 continue
-            done = run(words, folder)
+            done = run(by_own(words), folder)
             reload = "" if is_taken or words[0] == "why" else f". {RELOAD.format('a.acl')}"
             if (done.returncode, done.stdout, done.stderr) != (
                     2, "", f"a.acl:{shown}{reload}\n"):
@@ -366,7 +361,7 @@ def faults_of_odd_scripts(folder):
     ]
     for script, status, shown, failed in cases:
         pathlib.Path(folder, "s.jsonl").write_text(script, encoding="utf-8")
-        done = run(["reach", "a.acl", "--script", "s.jsonl"], folder)
+        done = run(by_own(["reach", "a.acl", "--script", "s.jsonl"]), folder)
         if (done.returncode, done.stdout, done.stderr) != (status, shown, failed):
             yield (f"reach --script of {script[:60]!r}: status {done.returncode}: "
                    f"{done.stdout}{done.stderr}")

@@ -7,7 +7,7 @@ status=0
 absent=
 
 if command -v flake8 > /dev/null; then
-    flake8 --config tools/.flake8 tests tools dev bench || status=1
+    flake8 --config tools/.flake8 tests tools dev bench conformance examples || status=1
 else
     absent=flake8
 fi

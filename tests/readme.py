@@ -2,9 +2,10 @@
 """Runs the blocks of README, tools/README, docs/guide, docs/reference and the manual pages, each
 from the top of a copy, and compares what they print.
 
-A block of lines that begin with `$ ` is a session: a line that begins with `> ` goes on with the
-command, and what follows is what it prints. A block of objects with `do` is a script: the program
-accepts each of its lines. Sessions that call a program which isn't there, such as jq, are left out,
+A block of `sh` is pasted as it is, and the block of `text` behind it is what it prints. A block of
+lines that begin with `$ ` is a session: a line that begins with `> ` goes on with the command, and
+what follows is what it prints. A block of objects with `do` is a script: the program accepts each
+of its lines. Sessions that call a program which isn't there, such as jq, are left out,
 and it says so.
 With `--installed ROOT` pages, files and programs are those of a package that is unpacked in ROOT.
 With `--write` it writes what each session prints into its page, for somebody to read: a page that
@@ -28,6 +29,7 @@ COPIED = ("examples", "brokers", "docs", "conformance")
 # What a session may call, and a machine may lack.
 OPTIONAL = ("jq", "pv")
 BLOCK = re.compile(r"(?<=^```\n)(.*?)(?=^```$)", re.S | re.M)
+PASTED = re.compile(r"(?<=^```sh\n)(.*?)(^```\n\n```text\n)(.*?)(?=^```$)", re.S | re.M)
 MANUAL_BLOCK = re.compile(r"(?<=^\.nf\n)(.*?)(?=^\.fi$)", re.S | re.M)
 STEP = re.compile(r"^\$ (.*\n(?:> .*\n)*)((?:(?!\$ ).*\n)*)", re.M)
 
@@ -57,9 +59,14 @@ class Page:
     def blocks(self):
         return [self.shown(block) for block in self.form.findall(self.text)]
 
-    def replace(self, change):
-        """Writes each block as `change` gives it."""
-        text = self.form.sub(lambda found: self.written(change(self.shown(found[0]))), self.text)
+    def pasted(self):
+        """What is pasted, with what it prints."""
+        return [(found[1], found[3]) for found in PASTED.finditer(self.text)]
+
+    def replace(self, change, print_pasted):
+        """Writes each block as `change` gives it, and behind what is pasted what it prints."""
+        text = PASTED.sub(lambda found: found[1] + found[2] + print_pasted(found[1]), self.text)
+        text = self.form.sub(lambda found: self.written(change(self.shown(found[0]))), text)
         if text != self.text:
             self.path.write_text(text, encoding="utf-8")
 
@@ -89,6 +96,11 @@ def session_faults(block, folder, path):
         block, folder, path) if printed != wanted]
 
 
+def pasted_faults(command, wanted, folder, path):
+    printed = printed_by(command, folder, path)
+    return [] if printed == wanted else [f"{command}  prints {printed!r}"]
+
+
 def script_faults(block, programs):
     answered = subprocess.run([programs / "mqroute"], input=block, text=True, capture_output=True)
     if answered.returncode == 0:
@@ -114,6 +126,9 @@ def is_session(block):
 def block_faults(pages, folder, programs, path):
     """What is wrong with each block that is run."""
     for page in pages:
+        for command, wanted in page.pasted():
+            faults = pasted_faults(command, wanted, folder, path)
+            yield "session", [f"{page.name}: {fault}" for fault in faults]
         for block in page.blocks():
             if is_session(block):
                 faults = session_faults(block, folder, path)
@@ -129,7 +144,7 @@ def write(pages, folder, path):
     for page in pages:
         page.replace(lambda block: "".join(
             f"$ {command}{printed}" for command, _, printed in steps(block, folder, path))
-            if is_session(block) else block)
+            if is_session(block) else block, lambda command: printed_by(command, folder, path))
 
 
 def pages_below(top, forms):
