@@ -54,7 +54,7 @@ class Case:
     """A script and the options that it is asked about with."""
     commands: list[dict]
     acl: str | None
-    rules: str | None
+    rules: str
     limits: dict = field(default_factory=dict)
 
     def oracle(self) -> Oracle:
@@ -143,7 +143,7 @@ def random_case(chance: random.Random) -> Case:
         commands.append(getattr(maker, what)(client))
     limits = {"max_retained": chance.choice([None, None, 1]),
               "max_queued": chance.choice([0, 1, 2, None])}
-    rules = chance.choice([None, "own", "mosquitto"])
+    rules = chance.choice(["own", "mosquitto"])
     return Case(commands, chance.choice([None, None, *LISTS]), rules, limits)
 
 

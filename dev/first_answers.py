@@ -2,21 +2,26 @@
 """Shows answers at once: of examples/new-access-list, or of a script of one's own.
 
 Where bin/mqroute is built it runs that. Else the toolchain compiles mqroute without any proof (`rt
-try`), and a line on standard error says so.
+try`). Where there is no toolchain either, the plain reader answers (tools/mqroute_tools/plain). A
+line on standard error says which, and how long it takes.
 """
 import argparse
+import os
 import pathlib
 import re
 import shutil
 import subprocess
 import sys
 import tempfile
+import time
 
 TOP = pathlib.Path(__file__).resolve().parent.parent
 PROGRAM = TOP / "bin/mqroute"
 EXAMPLE = TOP / "examples/new-access-list"
 UNPROVED = ("This run is unproved: mqroute is compiled as it stands, which takes a minute or two. "
             "`make` builds the proved program.")
+PLAIN = ("These answers are unproved: there is no rt on the PATH, so the plain reader gives them "
+         "(Python). The proved program: \"Get it\" in README.md.")
 OLD = "The sources are newer than bin/mqroute: `make` builds it anew."
 
 
@@ -35,6 +40,17 @@ def built_answers(cases):
     for script, access_list in cases:
         words = ["--acl-file", access_list] if access_list else []
         done = subprocess.run([PROGRAM, *words, script], stdout=subprocess.PIPE)
+        yield done.stdout, done.returncode
+
+
+def plain_answers(cases):
+    """The same of the plain reader."""
+    print(PLAIN, file=sys.stderr, flush=True)
+    for script, access_list in cases:
+        words = ["--acl-file", access_list] if access_list else []
+        done = subprocess.run([sys.executable, "-m", "mqroute_tools.plain", *words, script],
+                              env={**os.environ, "PYTHONPATH": str(TOP / "tools")},
+                              stdout=subprocess.PIPE)
         yield done.stdout, done.returncode
 
 
@@ -69,19 +85,39 @@ def statuses_of(text):
     return {int(number): int(status) for number, status in ended}
 
 
+def show_seconds(run):
+    """How long it has taken so far, on a terminal, until it ends."""
+    began = time.monotonic()
+    while run.poll() is None:
+        if sys.stderr.isatty():
+            print(f"\r{time.monotonic() - began:.0f} s", end="", file=sys.stderr, flush=True)
+        time.sleep(0.2)
+    if sys.stderr.isatty():
+        print("\r\x1b[K", end="", file=sys.stderr, flush=True)
+
+
+def ran(command):
+    """What a command writes, on standard output and on standard error."""
+    with tempfile.TemporaryFile() as out, tempfile.TemporaryFile() as err:
+        with subprocess.Popen(command, cwd=TOP / "crates/mqroute", stdout=out,
+                              stderr=err) as run:
+            show_seconds(run)
+        out.seek(0)
+        err.seek(0)
+        return out.read(), err.read()
+
+
 def tried_answers(cases):
     """The same of the program that `rt try` compiles."""
-    if shutil.which("rt") is None:
-        fail("there is no rt on the PATH: see \"Get it\" in README.md")
     print(UNPROVED, file=sys.stderr, flush=True)
     with tempfile.TemporaryDirectory() as name:
         folder = pathlib.Path(name)
         command = ["rt", "try", "--seconds", "600", *lay_out(cases, folder), "--cases", folder]
-        done = subprocess.run(command, cwd=TOP / "crates/mqroute", capture_output=True)
-    parts, statuses = parts_of(done.stdout), statuses_of(done.stderr)
+        written, said = ran(command)
+    parts, statuses = parts_of(written), statuses_of(said)
     for number in range(len(cases)):
         if number not in statuses:
-            sys.stderr.write((done.stdout[:2000] + done.stderr).decode(errors="replace"))
+            sys.stderr.write((written[:2000] + said).decode(errors="replace"))
             fail("rt try gave no answer (of more than 1 MiB it gives none: `make` builds the "
                  "program)")
         yield parts.get(number, b""), statuses[number]
@@ -89,7 +125,8 @@ def tried_answers(cases):
 
 def answers(cases):
     if not PROGRAM.exists():
-        return list(tried_answers(cases))
+        by = plain_answers if shutil.which("rt") is None else tried_answers
+        return list(by(cases))
     if is_old(PROGRAM):
         print(OLD, file=sys.stderr)
     return list(built_answers(cases))
