@@ -4,13 +4,17 @@ use mq_acl::Direction;
 use mq_print::{Datum, add_object};
 use std::alloc::{AllocError, Global};
 
+const READING: &str =
+    "mosquitto lets no client read topics that begin with $share, whatever the list says";
+
+const WRITING: &str = "mosquitto lets no client write topics that begin with $share, or with $SYS \
+    but for $SYS/broker/connection/+/state, whatever the list says";
+
 /// What it refuses, in words.
 pub fn refused_words(direction: Direction) -> &'static str {
     match direction {
-        Direction::Reading =>
-            "mosquitto lets no client read topics that begin with $share, whatever the list says",
-        Direction::Writing =>
-            "mosquitto lets no client write topics that begin with $share, or with $SYS but for $SYS/broker/connection/+/state, whatever the list says",
+        Direction::Reading => READING,
+        Direction::Writing => WRITING,
     }
 }
 
