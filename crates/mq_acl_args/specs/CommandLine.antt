@@ -11,7 +11,6 @@ use Rattle.clap.specs.declared.error.ErrorKind.{ErrorKind}
 use Rattle.clap.specs.declared.error.ErrorKind.TheVariants.{DisplayHelp}
 use Rattle.mq_acl.specs.AccessLists.{rules_named}
 use Rattle.mq_acl.specs.declared.access.Direction.{Direction}
-use Rattle.mq_acl.specs.declared.access.Direction.TheVariants.{Reading, Writing}
 use Rattle.mq_acl.specs.declared.rules.Rules.{Rules}
 use Rattle.mq_acl.specs.declared.rules.Rules.TheVariants.{Mosquitto}
 use Rattle.mq_differences.specs.declared.way.Way.{Way}
@@ -25,6 +24,7 @@ use Rattle.mq_args.specs.declared.usage.UsageFault.TheVariants.{Help, Usage, Mem
 use Rattle.mq_acl_args.specs.Files.{input_count, script_file}
 use Rattle.mq_acl_args.specs.declared.command_line.Subcommand.{Subcommand}
 use Rattle.mq_acl_args.specs.declared.request.Request.{Request}
+use Rattle.mq_ask.specs.Words.{access_named}
 use Rattle.mq_ask.specs.declared.client.Client.{Client}
 use Rattle.mq_acl_args.specs.declared.question.Subscriptions.{Subscriptions}
 use Rattle.mq_acl_args.specs.declared.question.Subscriptions.TheVariants as about
@@ -64,6 +64,10 @@ access_option = option (codes "access")
 abbrev pub may_option : Rule
 may_option = option (codes "may")
 
+-- `--questions QUESTIONS`
+abbrev pub questions_option : Rule
+questions_option = option (codes "questions")
+
 -- `--only USERS`, or `--only WAY`
 abbrev pub only_option : Rule
 only_option = option (codes "only")
@@ -91,12 +95,13 @@ compare =
     (required_argument (codes "OLD") ∷ json_flag ∷ required_argument (codes "NEW")
     ∷ plan_option ∷ only_option ∷ script_option ∷ steps_option ∷ rules_option ∷ [])
 
--- `why FILE CLIENT TOPIC [--user NAME] [--may ACCESS] [--rules RULES] [--json]`
+-- `why FILE [CLIENT] [TOPIC] [--user NAME] [--may ACCESS] [--questions QUESTIONS] [--rules RULES] [--json]`
 abbrev pub why : App
 why =
     with_rules (new_app (codes "why"))
-    (required_argument (codes "FILE") ∷ json_flag ∷ required_argument (codes "CLIENT")
-    ∷ required_argument (codes "TOPIC") ∷ user_option ∷ may_option ∷ rules_option ∷ [])
+    (required_argument (codes "FILE") ∷ json_flag ∷ optional_argument (codes "CLIENT")
+    ∷ optional_argument (codes "TOPIC") ∷ user_option ∷ may_option ∷ questions_option
+    ∷ rules_option ∷ [])
 
 -- `lint FILE.. [--steps N] [--rules RULES] [--json]`
 abbrev pub lint : App
@@ -146,6 +151,7 @@ pub data Asked : Type 0 where
   Compare : (old new : Text) (only : Option Way) (script : Option Text) → Asked
   Through : (old new plan : Text) (only : Option Way) → Asked
   Why : (file : Text) (client : ClientAsked) (topic : Text) (may : Option Direction) → Asked
+  WhyEach : (file questions : Text) → Asked
   Lint : (files : List Text) → Asked
   Reach : (file : Text) (client : ClientAsked) (filter : Text) → Asked
   ReachAny : (file : Text) (user : Option Text) (wanted : Text) → Asked
@@ -189,21 +195,22 @@ compare_asked_by rows =
 abbrev pub lint_asked : (files : Option (List Text)) → Option Asked
 lint_asked files = option_map Lint files
 
-abbrev pub direction_named : Text → Option Direction
-direction_named word =
-    if bytes_eq word (codes "read") then Some Reading
-    else (if bytes_eq word (codes "write") then Some Writing else None)
-
 -- whether the option with this id asks of reading or of writing alone; none where the word for it is unknown
 abbrev pub access_asked : (id : Text) → List Row → Option (Option Direction)
 access_asked id rows =
-    option_map_or (λ word. option_map Some (direction_named word)) (first_of id rows) (Some None)
+    option_map_or (λ word. option_map Some (access_named word)) (first_of id rows) (Some None)
 
-abbrev pub why_asked : (file id user topic : Option Text) → (may : Option (Option Direction))
+-- of one client and topic
+abbrev pub topic_asked : (file id user topic : Option Text) → (may : Option (Option Direction))
     → Option Asked
-why_asked (Some file) (Some id) user (Some topic) (Some may) =
+topic_asked (Some file) (Some id) user (Some topic) (Some may) =
     Some (Why file (record { id = id; user = user }) topic may)
-why_asked file id user topic may = None
+topic_asked file id user topic may = None
+
+-- of each question of a file: neither client nor user name nor topic nor access stands beside it
+abbrev pub each_asked : (file id user topic may : Option Text) → (questions : Text) → Option Asked
+each_asked (Some file) None None None None questions = Some (WhyEach file questions)
+each_asked file id user topic may questions = None
 
 -- of one subscription
 abbrev pub one_asked : (file id filter user : Option Text) → Option Asked
@@ -230,11 +237,18 @@ abbrev pub reach_asked : (file id filter user script any : Option Text) → Opti
 reach_asked file id filter user script None = some_asked file id filter user script
 reach_asked file id filter user script (Some wanted) = any_asked file id filter user script wanted
 
-abbrev pub why_asked_by : List Row → Option Asked
-why_asked_by rows =
-    why_asked (first_of (codes "FILE") rows) (first_of (codes "CLIENT") rows)
+abbrev pub why_asked : List Row → (questions : Option Text) → Option Asked
+why_asked rows None =
+    topic_asked (first_of (codes "FILE") rows) (first_of (codes "CLIENT") rows)
     (first_of (codes "user") rows) (first_of (codes "TOPIC") rows)
     (access_asked (codes "may") rows)
+why_asked rows (Some questions) =
+    each_asked (first_of (codes "FILE") rows) (first_of (codes "CLIENT") rows)
+    (first_of (codes "user") rows) (first_of (codes "TOPIC") rows) (first_of (codes "may") rows)
+    questions
+
+abbrev pub why_asked_by : List Row → Option Asked
+why_asked_by rows = why_asked rows (first_of (codes "questions") rows)
 
 abbrev pub reach_asked_by : List Row → Option Asked
 reach_asked_by rows =
@@ -305,6 +319,7 @@ abbrev pub question_view : Question → Asked
 question_view (asks.Compare q) = Compare q.old.now q.new.now q.only (option_copied q.script)
 question_view (asks.Through q) = Through q.old.now q.new.now q.plan.now q.only
 question_view (asks.Why q) = Why q.file.now (client_view q.client) q.topic.now q.may
+question_view (asks.WhyEach q) = WhyEach q.file.now q.questions.now
 question_view (asks.Lint files) = Lint (map (λ file. file.now) files.items)
 question_view (asks.Reach q) = reach_view q.file.now q.subscriptions
 question_view (asks.Who q) =
@@ -350,6 +365,7 @@ abbrev pub files_of : Asked → List Text
 files_of (Compare old new only script) = old ∷ new ∷ script_file script
 files_of (Through old new plan only) = old ∷ new ∷ plan ∷ []
 files_of (Why file client topic may) = file ∷ []
+files_of (WhyEach file questions) = file ∷ questions ∷ []
 files_of (Lint files) = files
 files_of (Reach file client filter) = file ∷ []
 files_of (ReachAny file user wanted) = file ∷ []

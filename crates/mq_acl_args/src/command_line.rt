@@ -13,9 +13,9 @@ use crate::help::{
     ABOUT, ACCESS_HELP, AFTER_HELP, ANY_HELP, CLIENT_HELP, COMPARE_ABOUT, COMPARE_AFTER_HELP,
     EXPECTED_HELP, FILE_HELP, FILES_HELP, FILTER_HELP, JSON_HELP, JUNIT_HELP, LINT_ABOUT,
     LINT_AFTER_HELP, LISTS_HELP, MAY_HELP, NEW_HELP, OLD_HELP, ONLY_HELP, PLAN_HELP,
-    PUBLISHES_HELP, REACH_ABOUT, REACH_AFTER_HELP, RULES_HELP, SCRIPT_HELP, STEPS_HELP,
-    SUBSCRIBER_HELP, TEST_ABOUT, TEST_AFTER_HELP, TOPIC_HELP, USER_HELP, WANTED_HELP, WAY_HELP,
-    WHO_ABOUT, WHO_AFTER_HELP, WHY_ABOUT, WHY_AFTER_HELP,
+    PUBLISHES_HELP, QUESTIONS_HELP, REACH_ABOUT, REACH_AFTER_HELP, RULES_HELP, SCRIPT_HELP,
+    STEPS_HELP, SUBSCRIBER_HELP, TEST_ABOUT, TEST_AFTER_HELP, TOPIC_HELP, USER_HELP, WANTED_HELP,
+    WAY_HELP, WHO_ABOUT, WHO_AFTER_HELP, WHY_ABOUT, WHY_AFTER_HELP,
 };
 use crate::request::{Request, request_in};
 use crate::unknown::{unknown_access, unknown_rules, unknown_way};
@@ -35,6 +35,13 @@ const PLAN_AND_SCRIPT: &str = "\
 error: compare takes --plan or --script, but not both
 
 For more information, try 'mqroute-acl compare --help'.
+";
+
+// The same of `why`.
+const NO_TOPIC: &str = "\
+error: why takes CLIENT and TOPIC, or --questions QUESTIONS without --user and --may
+
+For more information, try 'mqroute-acl why --help'.
 ";
 
 // Said of words that name standard input more than once.
@@ -80,7 +87,7 @@ const COMPARE: Subcommand<'static> = Subcommand {
     ],
 };
 
-// `why FILE CLIENT TOPIC [--user NAME] [--may ACCESS] [--rules RULES] [--json]`
+// `why FILE [CLIENT] [TOPIC] [--user NAME] [--may ACCESS] [--questions QUESTIONS] [--rules RULES] [--json]`
 const WHY: Subcommand<'static> = Subcommand {
     name: "why",
     about: WHY_ABOUT,
@@ -88,10 +95,15 @@ const WHY: Subcommand<'static> = Subcommand {
     arguments: &[
         Argument("FILE", ArgumentKind::Required, FILE_HELP),
         Argument("json", ArgumentKind::Flag, JSON_HELP),
-        Argument("CLIENT", ArgumentKind::Required, CLIENT_HELP),
-        Argument("TOPIC", ArgumentKind::Required, TOPIC_HELP),
+        Argument("CLIENT", ArgumentKind::Optional("CLIENT"), CLIENT_HELP),
+        Argument("TOPIC", ArgumentKind::Optional("TOPIC"), TOPIC_HELP),
         Argument("user", ArgumentKind::Option("NAME"), USER_HELP),
         Argument("may", ArgumentKind::Option("ACCESS"), MAY_HELP),
+        Argument(
+            "questions",
+            ArgumentKind::Option("QUESTIONS"),
+            QUESTIONS_HELP,
+        ),
         Argument("rules", ArgumentKind::Option("RULES"), RULES_HELP),
     ],
 };
@@ -207,6 +219,7 @@ fn usage_of(alloc: Global, text: &str) -> UsageFault
 fn no_question_words(matches: &ArgMatches<'_>) -> &'static str {
     match matches.subcommand() {
         Some(("compare", _)) => PLAN_AND_SCRIPT,
+        Some(("why", _)) => NO_TOPIC,
         _ => NO_QUESTION,
     }
 }

@@ -22,9 +22,10 @@ Exit status:
      somebody other than those of --only may, the client may not, or a line of
      EXPECTED doesn't hold. Where a user isn't asked about: compare, who --only
   2  the arguments aren't understood, an access list can't be opened, read or
-     understood, EXPECTED can't be opened or read or expects nothing, a script
-     can't be opened or read or has no command, or the steps don't suffice.
-     compare and lint: mosquitto doesn't take a line of a list
+     understood, EXPECTED can't be opened or read or expects nothing, a line of
+     QUESTIONS asks nothing, a script can't be opened or read or has no command,
+     or the steps don't suffice. compare and lint: mosquitto doesn't take a line
+     of a list
   3  a write failed, or memory ran out
 
 Example:
@@ -122,7 +123,13 @@ With --json one object is about reading and one about writing, each with
   allowed  true or false
   deny     the first line that denies it, with file, line and text; or null
   grant    the first line that grants it, or null
-  refused  true, and only there where mosquitto refuses it whatever the list says";
+  refused  true, and only there where mosquitto refuses it whatever the list says
+
+A question of --questions is an object in a line, such as
+  {\"client\":\"meter-17\",\"user\":\"meter\",\"topic\":\"plant/1/energy\",\"access\":\"write\"}
+without user where the client has none. Its answer is the one object for that
+access, in the order of the questions. Blank lines are passed by. Where a line
+asks nothing, none is answered";
 
 pub(crate) const LINT_ABOUT: &str = "Lists lines that are faulty, odd or without effect";
 
@@ -199,6 +206,9 @@ pub(crate) const WANTED_HELP: &str =
     "The topic filter; %c and %u as its levels are the client's own id and user name";
 
 pub(crate) const ACCESS_HELP: &str = "Show reading or writing alone: read or write (both)";
+
+pub(crate) const QUESTIONS_HELP: &str =
+    "Answer each question of this file instead, as JSON: one a line, as below";
 
 pub(crate) const MAY_HELP: &str =
     "The status is 0 where the client may, and 1 where it may not: read or write";

@@ -11,5 +11,5 @@ mod unknown;
 pub use command_line::arguments;
 pub use files::is_input;
 pub use mq_args::UsageFault;
-pub use question::{Compare, Question, Reach, Subscriptions, Test, Through, Who, Why};
+pub use question::{Compare, Question, Reach, Subscriptions, Test, Through, Who, Why, WhyEach};
 pub use request::Request;

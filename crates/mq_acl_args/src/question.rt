@@ -78,6 +78,15 @@ pub struct Why<'a> {
     pub may: Option<Direction>,
 }
 
+/// The same of each question of a file.
+#[derive(Clone, Copy, Drop)]
+pub struct WhyEach<'a> {
+    /// The file of the list.
+    pub file: &'a str,
+    /// The file of the questions.
+    pub questions: &'a str,
+}
+
 /// Whether subscriptions can be sent anything.
 #[derive(Clone, Copy, Drop)]
 pub struct Reach<'a> {
@@ -116,6 +125,7 @@ pub enum Question<'a> {
     Compare(Compare<'a>),
     Through(Through<'a>),
     Why(Why<'a>),
+    WhyEach(WhyEach<'a>),
     /// Which lines of these files have a fault or change nothing.
     Lint(Vec<&'a str>),
     Reach(Reach<'a>),
@@ -134,6 +144,7 @@ impl Question<'_> {
             }
             Question::Through(asked) => inputs_among(&[asked.old, asked.new, asked.plan]),
             Question::Why(asked) => inputs_among(&[asked.file]),
+            Question::WhyEach(asked) => inputs_among(&[asked.file, asked.questions]),
             Question::Lint(files) => inputs_among(files.as_slice()),
             Question::Reach(asked) => asked.subscriptions.input_count(asked.file),
             Question::Who(asked) => inputs_among(&[asked.file]) + input_in(asked.script),

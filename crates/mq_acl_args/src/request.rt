@@ -4,16 +4,16 @@ ghost use Rattle.std.specs.Option.{option_copied};
 ghost use Rattle.clap.specs.Words.{all_of, first_of, rows_of, found_of, subcommand_rows_of};
 ghost use Rattle.mq_acl_args.specs.CommandLine.{question_view, asked, GivesAsked};
 ghost use Rattle.mq_acl_args.specs.CommandLine.{all_asked, any_asked, compare_asked};
-ghost use Rattle.mq_acl_args.specs.CommandLine.{compare_asked_by, lint_asked, one_asked, through_asked};
+ghost use Rattle.mq_acl_args.specs.CommandLine.{compare_asked_by, each_asked, lint_asked, one_asked, through_asked};
 ghost use Rattle.mq_acl_args.specs.CommandLine.{reach_asked_by, rules_asked, some_asked};
-ghost use Rattle.mq_acl_args.specs.CommandLine.{access_asked, direction_named, steps_given, way_asked, way_named};
+ghost use Rattle.mq_acl_args.specs.CommandLine.{access_asked, steps_given, way_asked, way_named};
 ghost use Rattle.mq_acl_args.specs.CommandLine.{test_asked_by};
-ghost use Rattle.mq_acl_args.specs.CommandLine.{who_asked_by, why_asked_by};
+ghost use Rattle.mq_acl_args.specs.CommandLine.{topic_asked, who_asked_by, why_asked_by};
 
-use crate::question::{Compare, Question, Reach, Subscriptions, Test, Through, Who, Why};
+use crate::question::{Compare, Question, Reach, Subscriptions, Test, Through, Who, Why, WhyEach};
 use clap::ArgMatches;
 use mq_acl::{Direction, Rules};
-use mq_ask::{Client, Options, Selection};
+use mq_ask::{Client, Options, Selection, access_named};
 use mq_differences::Way;
 use std::alloc::{AllocError, Global};
 
@@ -112,16 +112,6 @@ fn compare_in<'a>(matches: &ArgMatches<'a>) -> Option<Question<'a>>
     }
 }
 
-pub(crate) fn direction_named(word: &str) -> Option<Direction>
-    ensures { result ≡ direction_named word.now }
-{
-    match word {
-        "read" => Some(Direction::Reading),
-        "write" => Some(Direction::Writing),
-        _ => None,
-    }
-}
-
 // Whether it is asked of reading or of writing alone, if the word for it is known, which this option has.
 fn access_in(matches: &ArgMatches<'_>, id: &str) -> Option<Option<Direction>>
     ensures { result ≡ access_asked id.now (rows_of (found_of matches.now)) }
@@ -129,14 +119,18 @@ fn access_in(matches: &ArgMatches<'_>, id: &str) -> Option<Option<Direction>>
     let Some(word) = value(matches, id) else {
         return Some(None);
     };
-    match direction_named(word) {
+    match access_named(word) {
         Some(direction) => Some(Some(direction)),
         None => None,
     }
 }
 
-fn why_in<'a>(matches: &ArgMatches<'a>) -> Option<Question<'a>>
-    ensures { option_map question_view result ≡ why_asked_by (rows_of (found_of matches.now)) }
+// Of one client and topic.
+fn why_one_in<'a>(matches: &ArgMatches<'a>) -> Option<Question<'a>>
+    ensures { let rows = rows_of (found_of matches.now) in option_map question_view result
+        ≡ topic_asked (first_of (codes "FILE") rows) (first_of (codes "CLIENT") rows)
+        (first_of (codes "user") rows) (first_of (codes "TOPIC") rows)
+        (access_asked (codes "may") rows) }
 {
     let user = value(matches, "user");
     match (
@@ -152,6 +146,36 @@ fn why_in<'a>(matches: &ArgMatches<'a>) -> Option<Question<'a>>
             may,
         })),
         _ => None,
+    }
+}
+
+// Of each question of a file: no client, topic, user name and access stand beside it.
+fn why_each_in<'a>(matches: &ArgMatches<'a>, questions: &'a str) -> Option<Question<'a>>
+    ensures { let rows = rows_of (found_of matches.now) in option_map question_view result
+        ≡ each_asked (first_of (codes "FILE") rows) (first_of (codes "CLIENT") rows)
+        (first_of (codes "user") rows) (first_of (codes "TOPIC") rows)
+        (first_of (codes "may") rows) questions.entry.now }
+{
+    match (
+        value(matches, "FILE"),
+        value(matches, "CLIENT"),
+        value(matches, "user"),
+        value(matches, "TOPIC"),
+        value(matches, "may"),
+    ) {
+        (Some(file), None, None, None, None) => {
+            Some(Question::WhyEach(WhyEach { file, questions }))
+        }
+        _ => None,
+    }
+}
+
+fn why_in<'a>(matches: &ArgMatches<'a>) -> Option<Question<'a>>
+    ensures { option_map question_view result ≡ why_asked_by (rows_of (found_of matches.now)) }
+{
+    match value(matches, "questions") {
+        None => why_one_in(matches),
+        Some(questions) => why_each_in(matches, questions),
     }
 }
 

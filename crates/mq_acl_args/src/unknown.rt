@@ -1,7 +1,8 @@
 //! Words of a command line that `clap` takes and that are unknown.
-use crate::request::{direction_named, value, way_named};
+use crate::request::{value, way_named};
 use clap::ArgMatches;
 use mq_acl::Rules;
+use mq_ask::access_named;
 
 /// The word for the rules in the values of a command line, if it is unknown.
 pub(crate) fn unknown_rules<'a>(matches: &ArgMatches<'a>) -> Option<&'a str> {
@@ -27,7 +28,7 @@ pub(crate) fn unknown_access<'a>(matches: &ArgMatches<'a>) -> Option<(&'a str, &
     let (name, values) = matches.subcommand()?;
     let (id, option) = access_option(name)?;
     let word = value(values, id)?;
-    match direction_named(word) {
+    match access_named(word) {
         Some(_) => None,
         None => Some((word, option)),
     }

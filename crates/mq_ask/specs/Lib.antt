@@ -2,3 +2,4 @@ pub mod Statuses
 pub mod Lists
 pub mod Failures
 pub mod Notes
+pub mod Words

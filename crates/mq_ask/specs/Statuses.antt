@@ -34,6 +34,7 @@ failure_status (failure.FilterGaveUp file others) = 2
 failure_status (failure.TestGaveUp file line list row others) = 2
 failure_status (failure.TestFilterGaveUp file line list others) = 2
 failure_status (failure.NoExpectation file) = 2
+failure_status (failure.Question file line words) = 2
 failure_status (failure.OfNamed text) = 2
 failure_status (failure.NoUser file user) = 2
 failure_status (failure.UserMark user) = 2

@@ -106,6 +106,13 @@ pub enum Failure<'a> {
     /// No line of a file of expectations expects anything.
     #[error("mqroute-acl: {0}: no line expects anything")]
     NoExpectation(&'a str),
+    /// A line of a file of questions asks nothing, in words.
+    #[error("{file}:{line}: {words}")]
+    Question {
+        file: &'a str,
+        line: u64,
+        words: &'static str,
+    },
     /// As it is printed: of a file that a file of expectations names.
     #[error("{0}")]
     OfNamed(String),

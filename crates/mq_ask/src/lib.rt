@@ -32,4 +32,4 @@ pub use refused::{add_refused, add_refused_json, refused_words};
 pub use reload::reload_words;
 pub use rows::{check_taken, list_failure, rows_in};
 pub use selection::Selection;
-pub use words::{access_word, rules_owner};
+pub use words::{access_named, access_word, rules_owner};

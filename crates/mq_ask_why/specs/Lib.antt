@@ -1,1 +1,4 @@
 pub mod Why
+pub mod Questions
+pub mod Texts
+pub mod Answers

@@ -1,8 +1,9 @@
 //! Which lines decide whether a client may read and write a topic, in words and as JSON.
+use crate::answers::Answer;
 use mq_acl::Direction;
 use mq_ask::{AskedClient, access_word, add_client, refused_words};
 use mq_differences::{Reason, Verdict};
-use mq_print::{Datum, Escape, ListText, add_line, add_object, shown_lines};
+use mq_print::{Datum, Escape, Lines, ListText, add_line, add_object, lines_of, shown_lines};
 use std::alloc::{AllocError, Global};
 
 // Adds the line that would allow it, if there is one.
@@ -48,7 +49,7 @@ fn add_words(
 fn add_json<'a>(
     alloc: Global,
     text: &mut String,
-    list: ListText<'a, 'a>,
+    list: Lines<'a, 'a, 'a>,
     direction: Direction,
     verdict: Verdict,
 ) -> Result<(), AllocError> {
@@ -85,6 +86,47 @@ fn add_asked(text: &mut String, asked: AskedTopic<'_>) -> Result<(), AllocError>
     write!(text, ", topic {topic}\n{note}")
 }
 
+fn json_text(
+    alloc: Global,
+    list: ListText<'_, '_>,
+    reading: Verdict,
+    writing: Verdict,
+) -> Result<String, AllocError> {
+    let lines = lines_of(alloc, list.text)?;
+    let list = Lines {
+        file: list.file,
+        lines: lines.as_slice(),
+    };
+    let mut text = String::new(alloc);
+    add_json(alloc, &mut text, list, Direction::Reading, reading)?;
+    add_json(alloc, &mut text, list, Direction::Writing, writing)?;
+    Ok(text)
+}
+
+/// The answers as JSON, one a line.
+pub(crate) fn answers_text(
+    alloc: Global,
+    list: ListText<'_, '_>,
+    answers: &[Answer<'_>],
+) -> Result<String, AllocError> {
+    let lines = lines_of(alloc, list.text)?;
+    let list = Lines {
+        file: list.file,
+        lines: lines.as_slice(),
+    };
+    let mut text = String::new(alloc);
+    for answer in answers {
+        add_json(
+            alloc,
+            &mut text,
+            list,
+            answer.question.access,
+            answer.verdict,
+        )?;
+    }
+    Ok(text)
+}
+
 /// What is asked, and the answers for reading and writing, each with the line that decides it; as
 /// JSON the answers alone.
 pub fn explanation_text(
@@ -95,12 +137,10 @@ pub fn explanation_text(
     writing: Verdict,
     json: bool,
 ) -> Result<String, AllocError> {
-    let mut text = String::new(alloc);
     if json {
-        add_json(alloc, &mut text, list, Direction::Reading, reading)?;
-        add_json(alloc, &mut text, list, Direction::Writing, writing)?;
-        return Ok(text);
+        return json_text(alloc, list, reading, writing);
     }
+    let mut text = String::new(alloc);
     add_asked(&mut text, asked)?;
     add_words(&mut text, list, Direction::Reading, reading)?;
     add_words(&mut text, list, Direction::Writing, writing)?;

@@ -5,9 +5,10 @@ use Rattle.mq_acl.specs.declared.rules.Rules.{Rules}
 use Rattle.mq_args.specs.declared.usage.UsageFault.{UsageFault}
 use Rattle.mq_args.specs.declared.usage.UsageFault.TheVariants.{Help, Usage, Memory}
 use Rattle.mq_acl_args.specs.CommandLine.{Asked, Compare, Why, Lint, Reach, ReachAny, ReachAll}
-use Rattle.mq_acl_args.specs.CommandLine.{Through, Who, Test}
+use Rattle.mq_acl_args.specs.CommandLine.{Through, Who, Test, WhyEach}
 use Rattle.mq_acl_args.specs.CommandLine.{ReadsInputOnce}
 use Rattle.mq_ask_compare.specs.Compare.{IsCompared}
+use Rattle.mq_ask_why.specs.Answers.{AreAnswered}
 use Rattle.mq_ask_why.specs.Why.{IsExplained}
 use Rattle.mq_ask_reach.specs.Reach.{IsReached}
 use Rattle.mq_ask_who.specs.ReachAny.{IsReachedByAny}
@@ -32,6 +33,9 @@ IsAnswer rules input (Through old new plan only) outcome =
 IsAnswer rules input (Why file client topic may) outcome = (text : List ℕ)
     × IsTextOf input file text
     × IsExplained rules may text client.id client.user topic outcome
+IsAnswer rules input (WhyEach file questions) outcome = (text lines : List ℕ)
+    × IsTextOf input file text × IsTextOf input questions lines
+    × AreAnswered rules text lines outcome
 IsAnswer rules input (Lint files) outcome = AreLinted rules input files outcome
     × AreTaken input files
 IsAnswer rules input (Reach file client filter) outcome = (text : List ℕ)

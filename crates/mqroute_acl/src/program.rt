@@ -9,6 +9,7 @@ ghost use Rattle.mq_acl_args.specs.CommandLine.{rules_given, subcommand_of};
 ghost use Rattle.mq_acl_args.specs.CommandLine.{values_of};
 ghost use Rattle.mq_acl_args.specs.Files.{input_count, script_file};
 ghost use Rattle.mq_ask_compare.specs.Compare.{IsCompared};
+ghost use Rattle.mq_ask_why.specs.Answers.{AreAnswered};
 ghost use Rattle.mq_ask_why.specs.Why.{IsExplained};
 ghost use Rattle.mq_ask.specs.Statuses.{failure_status};
 ghost use Rattle.mq_ask_who.specs.Who.{IsWho};
@@ -20,13 +21,13 @@ use crate::lint::answer_lint;
 use crate::plan::answer_through;
 use crate::reach::answer_reach;
 use crate::test::answer_test;
-use mq_acl_args::{Compare, Question, Request, Who, Why, arguments};
+use mq_acl_args::{Compare, Question, Request, Who, Why, WhyEach, arguments};
 use mq_args::UsageFault;
 use mq_ask::{FAILED, Failure, Options, Outcome, UNREADABLE, print};
 use mq_ask_cases::ScriptTraffic;
 use mq_ask_compare::show_changes;
 use mq_ask_who::show_who;
-use mq_ask_why::show_why;
+use mq_ask_why::{show_each, show_why};
 use mq_print::{Escape, ListText, shown_lines, shown_name};
 use mq_traffic::Traffic;
 use std::alloc::{AllocError, Global};
@@ -112,6 +113,37 @@ fn answer_why<'a, R: Files, I: Read, W: Write>(
     )
 }
 
+/// Of each question of a file.
+fn answer_each<'a, R: Files, I: Read, W: Write>(
+    rt: &R,
+    alloc: Global,
+    asked: WhyEach<'a>,
+    options: Options,
+    input: &mut I,
+    out: &mut W,
+) -> Result<Outcome, Failure<'a>>
+    requires { input_count (asked.file.now ∷ asked.questions.now ∷ []) ≤ 1 }
+    ensures ok { IfOk result (λ outcome. (text questions : List ℕ)
+        × IsTextOf (I.remaining input.old) asked.entry.file.now text
+        × IsTextOf (I.remaining input.old) asked.entry.questions.now questions
+        × AreAnswered options.rules text questions outcome) }
+    ensures unread { IfErr result (λ failure. failure_status failure ≡ 2 → out.new ≡ out.old) }
+    ensures kept { input_count (asked.entry.file.now ∷ asked.entry.questions.now ∷ []) ≡ 0
+        → input.new ≡ input.old }
+{
+    let text = text_of(rt, alloc, asked.file, input)?;
+    let questions_text = text_of(rt, alloc, asked.questions, input)?;
+    let list = ListText {
+        file: asked.file,
+        text: text.as_str(),
+    };
+    let questions = ListText {
+        file: asked.questions,
+        text: questions_text.as_str(),
+    };
+    show_each(alloc, list, questions, options, out)
+}
+
 /// Of a list and a filter: who may, and how many publishes of a script if one is given.
 fn answer_who<'a, R: Files, I: Read, W: Write>(
     rt: &R,
@@ -178,6 +210,7 @@ fn answer<'a, R: Files, I: Read, W: Write>(
         Question::Compare(asked) => answer_compare(rt, alloc, asked, options, input, out, notes),
         Question::Through(asked) => answer_through(rt, alloc, asked, options, input, out),
         Question::Why(asked) => answer_why(rt, alloc, asked, options, input, out),
+        Question::WhyEach(asked) => answer_each(rt, alloc, asked, options, input, out),
         Question::Lint(files) => {
             answer_lint(rt, alloc, files.as_slice(), options, input, out, notes)
         }

@@ -22,6 +22,12 @@ returns-in-Why-clause-ok g c = rw c.in-Why.is c.answer_why.ensures.ok
 pub returns-in-Why-clause-unread : goal.returns-in-Why-clause-unread
 returns-in-Why-clause-unread g c = rw c.in-Why.is c.answer_why.ensures.unread
 
+pub returns-in-WhyEach-clause-ok : goal.returns-in-WhyEach-clause-ok
+returns-in-WhyEach-clause-ok g c = rw c.in-WhyEach.is c.answer_each.ensures.ok
+
+pub returns-in-WhyEach-clause-unread : goal.returns-in-WhyEach-clause-unread
+returns-in-WhyEach-clause-unread g c = rw c.in-WhyEach.is c.answer_each.ensures.unread
+
 pub returns-in-Lint-clause-ok : goal.returns-in-Lint-clause-ok
 returns-in-Lint-clause-ok g c =
     rw c.in-Lint.is

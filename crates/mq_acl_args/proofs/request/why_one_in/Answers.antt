@@ -1,5 +1,5 @@
 use Rattle.std.proofs.Common.{sym, refl}
-use Rattle.mq_acl_args.proofs.request.why_in.Goals as goal
+use Rattle.mq_acl_args.proofs.request.why_one_in.Goals as goal
 
 pub returns-in-Some-Some-Some-Some : goal.returns-in-Some-Some-Some-Some
 returns-in-Some-Some-Some-Some c =

@@ -1,0 +1,11 @@
+-- Words for what is asked about.
+use Rattle.std.specs.Prelude.{List, None, Option, Some, codes, if◌then◌else◌, ℕ}
+use Rattle.std.specs.Str.{bytes_eq}
+use Rattle.mq_acl.specs.declared.access.Direction.{Direction}
+use Rattle.mq_acl.specs.declared.access.Direction.TheVariants.{Reading, Writing}
+
+-- whether it is read or written; none where the word is unknown
+abbrev pub access_named : (word : List ℕ) → Option Direction
+access_named word =
+    if bytes_eq word (codes "read") then Some Reading
+    else (if bytes_eq word (codes "write") then Some Writing else None)

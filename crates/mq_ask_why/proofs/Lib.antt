@@ -1,0 +1,2 @@
+pub mod QuestionLemmas
+pub mod AnswerLemmas
