@@ -18,18 +18,20 @@ class Deciding(Compared):
     """The lines of both lists, by a program that stands for mqroute-acl."""
     ASKED = '''#!/usr/bin/env python3
 import json, sys
-why, flag, rules, *user, end, file, client, topic = sys.argv[1:]
-assert (why, flag, rules, end) == ("why", "--json", "--rules=own", "--"), sys.argv
-open(sys.argv[0] + ".asked", "a").write(f"{file} {client} {user} {topic}\\n")
+*words, file = sys.argv[1:]
+assert words == ["why", "--json", "--rules=own", "--questions=-", "--"], sys.argv
+open(sys.argv[0] + ".calls", "a").write(file + "\\n")
 lists, name = {}, None
 for number, line in enumerate(open(file).read().splitlines(), 1):
     name = line[5:] if line.startswith("user ") else name
     if line.startswith("topic deny "):
         shown = {"file": file, "line": number, "text": f"{line}  "}
         lists.setdefault((name, line.split()[-1]), shown)
-for access in ("read", "write"):
-    grant = {"file": file, "line": 1, "text": "pattern readwrite #"}
-    deny = lists.get((user[0].removeprefix("--user="), topic)) if user else None
+for text in sys.stdin:
+    open(sys.argv[0] + ".asked", "a").write(f"{file} {text}")
+    asked = json.loads(text)
+    access, grant = asked["access"], {"file": file, "line": 1, "text": "pattern readwrite #"}
+    deny = lists.get((asked["user"], asked["topic"])) if "user" in asked else None
     print(json.dumps({"access": access, "allowed": not deny, "deny": deny, "grant": grant}))
 '''
 
@@ -45,8 +47,8 @@ for access in ("read", "write"):
         program.chmod(0o755)
         with unittest.mock.patch.dict(os.environ, MQROUTE_ACL_PROGRAM=str(program)):
             done = self.compared(script, before, after, *lists, "--rules=own", *words, **more)
-        asked = Path(f"{program}.asked")
-        self.asked = asked.read_text().splitlines() if asked.exists() else []
+        self.asked, self.calls = (path.read_text().splitlines() if path.exists() else [] for path in
+                                  (Path(f"{program}.asked"), Path(f"{program}.calls")))
         return done
 
     def test_readers_and_publishers(self):
@@ -75,7 +77,8 @@ for access in ("read", "write"):
              *(publish("p", f"x/{n}") for n in (1, 2, 1))]  # six copies
 
     def test_each_pair_of_lines(self):
-        """Each has a row with its own number of copies, and each topic is asked for once."""
+        """Each has a row with its own number of copies, and each topic is asked for once, by one
+        process for each list."""
         done = self.shown(self.THREE, self.TWO, "--by", "user", "--depth", "1")
         grant = "1: pattern readwrite #"
         rows = [line.split("may no longer read")[0].split() + [line.split("  ")[-1]]
@@ -84,6 +87,7 @@ for access in ("read", "write"):
                                 ["ops", "2", "x/#", "lost", "2", f"{grant} -> 4: topic deny x/2"]])
         self.assertEqual(len(self.asked), len(set(self.asked)))
         self.assertEqual(len(self.asked), 4)
+        self.assertEqual(self.calls, ["before.acl", "after.acl"])
         done = self.shown(self.THREE, self.TWO, "--by", "user", "--depth", "1", "--json")
         [row] = json.loads(done.stdout)["copies"]
         denied = [cause["decided"]["after"]["deny"]["line"] for cause in row["causes"]]

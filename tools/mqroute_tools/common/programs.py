@@ -34,12 +34,13 @@ def on_one_line(said: bytes) -> str:
 
 
 def output_of(words: list[str], named: Callable[[str], str] = str,
-              statuses: Container[int] = (0, 1),
-              out: int = subprocess.PIPE) -> subprocess.CompletedProcess[bytes]:
-    """Runs a program to its end. Raises Fault where it can't be run or ends with another status;
-    `named` puts the names of files into what it says then."""
+              statuses: Container[int] = (0, 1), out: int = subprocess.PIPE,
+              given: bytes | None = None) -> subprocess.CompletedProcess[bytes]:
+    """Runs a program to its end, with what it is given on standard input. Raises Fault where it
+    can't be run or ends with another status; `named` puts the names of files into what it says
+    then."""
     try:
-        done = subprocess.run(words, stdout=out, stderr=subprocess.PIPE)
+        done = subprocess.run(words, stdout=out, stderr=subprocess.PIPE, input=given)
     except OSError as fault:
         raise Fault(f"cannot run {words[0]}: {fault.strerror}") from fault
     if done.returncode not in statuses:

@@ -3,6 +3,7 @@
 The lists are those that were in force when the script began: nothing is listed of lines after one
 that sets another.
 """
+from collections.abc import Iterable
 from dataclasses import dataclass
 
 from ..common.exit_status import Fault
@@ -31,6 +32,12 @@ class Lists:
         self.lists = before, after
         self.contradiction = ""  # the first
         self.fit_swapped = True  # as far as was asked
+
+    def ask_all(self, questions: Iterable[Question]) -> None:
+        """Each list at once about all that `decides` will be asked."""
+        together = list(questions)
+        for one in self.lists:
+            one.ask_all(together)
 
     def decides(self, asked: Question, allowed: tuple[bool, bool], line: int) -> Decided:
         """The verdicts of both. `allowed` is what the outputs show of the runs, at this line."""

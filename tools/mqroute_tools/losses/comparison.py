@@ -213,6 +213,7 @@ def findings(losses: Losses) -> Findings:
         return Findings(None, [CopiesRow(Subject(*key), value, None) for key, value in copies], [],
                         [RefusedRow(Subject(*key), value) for key, value in refusals],
                         losses.totals())
+    reasons.ask_lists((key for key, _ in copies), (key for key, _ in refusals))
     rows = [copies_of(reasons, key, value) for key, value in copies]
     lines = [row for key, value in refusals for row in refused_of(reasons, key, value)]
     return Findings("user" if reasons.by_user else "client", rows, all_causes(rows), lines,

@@ -17,6 +17,7 @@ Counts = TypeVar("Counts", Copies, Refusals)
 Why = tuple[str, Cause, Question | None]  # lost, gained or changed
 DENIED = "NotAuthorized"
 BY_ACCESS = {None, DENIED, "RetainedFull"}  # answers that show whether the publisher may write
+OF_ACCESS = ("reader", "publisher", "retained")  # causes that a line of a list decides
 
 
 def row_order(item: tuple[Row, Counts]) -> tuple[bool, str, str]:
@@ -106,13 +107,26 @@ class Reasons:
         entry.newly.update([now] if now else [])
         entry.no_longer.update([was] if was else [])
 
+    def ask_lists(self, copies: Iterable[Row], refusals: Iterable[Row]) -> None:
+        """Asks about all at once that these rows need."""
+        if self.lists:
+            self.lists.ask_all(self.questions(copies, refusals))
+
+    def questions(self, copies: Iterable[Row], refusals: Iterable[Row]) -> Iterator[Question]:
+        for row in copies:
+            for _, cause, asked in self.copies[row]:
+                if asked and self.attribution.queues.resolved(cause).kind in OF_ACCESS:
+                    yield asked
+        for row in refusals:
+            yield from filter(None, self.refusals[row])
+
     def of(self, row: Row) -> list[tuple[str, Cause, Decided | None, Tally]]:
         """What differs in a row, by cause and by the lines that decide it."""
         known: dict[tuple[str, Cause, tuple[int, ...]], tuple[Decided | None, Tally]] = {}
         for (what, cause, asked), tally in self.copies[row].items():
             cause = self.attribution.queues.resolved(cause)
             decided = None
-            if self.lists and asked and cause.kind in ("reader", "publisher", "retained"):
+            if self.lists and asked and cause.kind in OF_ACCESS:
                 decided = self.lists.decides(asked, allowed(what, cause), tally.places[0])
             known.setdefault((what, cause, pair(decided)), (decided, Tally()))[1].merge(tally)
 

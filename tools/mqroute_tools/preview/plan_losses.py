@@ -3,11 +3,10 @@ proposed one: by user name, with causes.
 
 What is lost, gained and refused is what `who-loses --plan` counts. Which lines decide is asked
 where a publish was refused, and where by both lists the receiver may no longer read the topic, or
-may now.
+may now: at the end, about all of it at once.
 """
 from collections import Counter, defaultdict
 
-from ..losses.acl_verdicts import Decided
 from ..losses.attribution import WHAT, difference
 from ..losses.by_plan import ByPlan, Sides, Turn
 from ..losses.causes import READER, UNKNOWN, Cause, words
@@ -18,18 +17,18 @@ from ..script.access_list import Question
 from ..script.output import Command, Key
 from .acl_answers import Lists
 from .findings import RefusedRow, UserRow
+from .open_sums import Asked, OpenSums, Reason
 from .renaming import Renaming
-from .user_rows import RefusedSum, Sum, UserSum, in_order, publisher, refused_in_order
+from .user_rows import RefusedSum, UserSum, in_order, publisher, refused_in_order
 
 NO_NAME = "its topic has no new name"
-Because = tuple[str, Decided | None]
 
 
 class PlanLosses(ByPlan):
     def __init__(self, renaming: Renaming, lists: Lists, outputs: tuple[str, str]) -> None:
         losses = Losses(None)
         super().__init__(losses, renaming.plan, (renaming.old, renaming.new), outputs)
-        self.renaming, self.lists = renaming, lists
+        self.renaming, self.open = renaming, OpenSums(lists)
         self.users: dict[str, str | None] = {}
         losses.users = self.users
         self.old_names: dict[str, str] = {}  # of the topics of the publishes, by the new ones
@@ -38,6 +37,10 @@ class PlanLosses(ByPlan):
         self.refusals: dict[str | None, RefusedSum] = {}
         self.changed: defaultdict[str | None, set[str]] = defaultdict(set)
         self.refused_clients: defaultdict[str | None, set[str]] = defaultdict(set)
+
+    def compare(self) -> None:
+        super().compare()
+        self.open.settle()
 
     def count(self, number: int, command: Command, sides: Sides) -> list[Turn]:
         do, topic = command.get("do"), command.get("topic")
@@ -71,49 +74,48 @@ class PlanLosses(ByPlan):
         one = self.sums.setdefault(user, UserSum(user))
         one.count(old, *counts)
         self.changed[user].add(client)
+        place = Place(self.own(number), client, old, 0)
         for what, count in zip(WHAT, counts):
             if count:
-                because, decided = self.because(what, number, command, sides, key)
-                one.sums.add(Sum(what, because, decided), count,
-                             [Place(self.own(number), client, old, 0)])
+                reason = self.reason(what, number, command, sides, key)
+                self.open.add(one.sums, what, reason, count, place)
 
-    def because(self, what: str, number: int, command: Command, sides: Sides,
-                key: Key) -> Because:
+    def reason(self, what: str, number: int, command: Command, sides: Sides, key: Key) -> Reason:
         if command.get("do") == "publish" and self.renaming.is_gone(self.own(number)):
-            return NO_NAME, None
+            return Reason(NO_NAME)
         was, now = sides[0].refused, sides[1].refused
         if was != now:
             return self.by_refusal(what, command, was, now)
         client, new = key
-        old = self.old_names.get(new, new)
-        decided = self.decided(client, old, new, "read") if what != "changed" else None
-        if decided and said(decided) == (what == "lost", what == "gained"):
-            return words(READER, what, ""), decided
-        return words(UNKNOWN, what, ""), None
+        topics = self.old_names.get(new, new), new
+        asked = None
+        if what != "changed":
+            asked = self.asked(client, topics, "read", (what == "lost", what == "gained"))
+        return Reason(words(UNKNOWN, what, ""), asked, words(READER, what, ""))
 
-    def by_refusal(self, what: str, command: Command, was: str | None,
-                   now: str | None) -> Because:
+    def by_refusal(self, what: str, command: Command, was: str | None, now: str | None) -> Reason:
         do, client = str(command.get("do")), str(command.get("client"))
         user = self.users.get(client)
         kind = "publisher" if do == "publish" else "session"
         cause = Cause(kind, now or was or "", now is not None, user, did=do)
-        return words(cause, what, publisher(user)), self.of_publish(command, was, now)
+        return Reason(words(cause, what, publisher(user)), self.of_publish(command, was, now))
 
-    def of_publish(self, command: Command, was: str | None, now: str | None) -> Decided | None:
-        """Which lines decide that one run alone refused it."""
+    def of_publish(self, command: Command, was: str | None, now: str | None) -> Asked | None:
+        """What is asked of a publish that one run alone refused."""
         if command.get("do") != "publish" or not {DENIED} < {was, now} <= BY_ACCESS:
             return None
         old = str(command.get("topic"))
-        found = self.decided(str(command.get("client")), old, self.renamed(old), "write")
-        return found if found and said(found) == (was != DENIED, now != DENIED) else None
+        return self.asked(str(command.get("client")), (old, self.renamed(old)), "write",
+                          (was != DENIED, now != DENIED))
 
-    def decided(self, client: str, old: str, new: str, access: str) -> Decided | None:
-        """What the current list says of the old name, and the proposed one of the new name."""
+    def asked(self, client: str, topics: tuple[str, str], access: str,
+              allowed: tuple[bool, bool]) -> Asked | None:
+        """Of the current list about the old name, and of the proposed one about the new name."""
         if self.sets_list:
             return None
         user = self.users.get(client)
-        return Decided(self.lists.current.verdict(Question(client, user, old, access)),
-                       self.lists.proposed.verdict(Question(client, user, new, access)))
+        current, proposed = (Question(client, user, topic, access) for topic in topics)
+        return Asked(current, proposed, allowed)
 
     # -- refusals
 
@@ -129,8 +131,8 @@ class PlanLosses(ByPlan):
         self.refused_clients[user].add(client)
         for what, name in (("refused", now), ("accepted", was)):
             if name is not None:
-                one.sums.add(Sum(what, name, self.of_publish(command, was, now)), 1,
-                             [Place(own, client, str(topic), 0)])
+                reason = Reason(name, self.of_publish(command, was, now))
+                self.open.add(one.sums, what, reason, 1, Place(own, client, str(topic), 0))
 
     # -- what was found
 
@@ -157,7 +159,3 @@ class PlanLosses(ByPlan):
             row.clients = len(self.refused_clients[row.user])
             self.renaming.name_new(row.topics)
         return refused_in_order(rows)
-
-
-def said(decided: Decided) -> tuple[bool, bool]:
-    return decided.before.allowed, decided.after.allowed

@@ -4,11 +4,14 @@ from collections import Counter
 from collections.abc import Iterator
 from dataclasses import dataclass, field
 from heapq import nsmallest
+from itertools import chain, islice
 from pathlib import Path
 
 from ..plan.filters import HASH, PLUS, Levels, covers, is_wild, levels, meet, text_of
 from ..script.access_list import AccessList, Line, Question
 from ..script.rules import MOSQUITTO
+from ..script.strict_json import has_half
+from ..script.text_faults import name_fault
 from ..script.topics import TopicTree
 from .acl_answers import Lists, number
 from .findings import LOST, Client, Preview, Right, Scope
@@ -18,7 +21,7 @@ from .words import level_shown, topic_of
 ASKED = 5  # topics of the day that are asked about for each right, at most
 DEEPEST = 3  # levels that are put in the place of a `#`
 MANY = 100  # filters that narrow a right, of which none is looked for in another
-MOST_QUESTIONS = 600  # of both lists, for all rights: each takes some milliseconds
+MOST_QUESTIONS = 600  # of both lists, for all rights
 
 
 @dataclass
@@ -51,7 +54,7 @@ class Scopes:
                      for one in (lists.current, lists.proposed)}
         self.topics, self.left = TopicTree(), MOST_QUESTIONS
         self.regions: dict[int, Region] = {}  # by the rights' id()
-        for topic in published:
+        for topic in filter(is_topic, published):
             self.topics.add(topic)
         named = {level for rows in self.rows.values() for row in rows
                  for level in levels(row.filter)}
@@ -73,11 +76,16 @@ class Scopes:
         return Scope(text_of(region.filter), list(map(text_of, region.but_for)), region.in_part,
                      sum(self.published[topic] for topic in topics))
 
-    def exemplify(self, right: Right) -> None:
-        """Adds a topic to the right's scope, unless that is one itself."""
-        region = self.regions.get(id(right))
-        if right.scope and region and not is_one_topic(region):
-            right.scope.topic, right.scope.published = self.such_as(right, region)
+    def exemplify(self, rights: list[Right]) -> None:
+        """Adds a topic to the scope of each, unless that is one itself."""
+        found = [(right, region) for right in rights
+                 if (region := self.regions.get(id(right))) and not is_one_topic(region)]
+        questions = list(self.questions(found))
+        for one in (self.lists.current, self.lists.proposed):
+            one.ask_all(questions)
+        for right, region in found:
+            if right.scope:
+                right.scope.topic, right.scope.published = self.such_as(right, region)
 
     def side(self, asked: AccessList, line: Line | None) -> Side:
         return Side(asked, self.rows[asked.path], number(line))
@@ -136,6 +144,19 @@ class Scopes:
                 return words, 0
         return topic_of(right), 0
 
+    def questions(self, rights: list[tuple[Right, Region]]) -> Iterator[Question]:
+        """All that `such_as` may ask about these, so that each list is asked once: as much as is
+        left where each right before takes its first topic."""
+        left = self.left
+        for right, region in rights:
+            clients = asked_for(right, region)
+            cost = 2 * len(clients)
+            below = (topic for topic, _ in self.below(right.clients[0], region))
+            topics = filter(is_topic, chain(region.most, below))
+            for topic in islice(topics, max(0, left // cost)):
+                yield from (question(right, one, topic) for one in clients)
+            left -= cost
+
     def below(self, client: Client, region: Region) -> Iterator[tuple[str, str]]:
         """Topics with a level that no line names for each wildcard, and the words for them."""
         parts = [filled(part, client) if region.has_marks else part for part in region.filter]
@@ -148,19 +169,34 @@ class Scopes:
                 for place, name in enumerate(names))
 
     def decide(self, right: Right, region: Region, topic: str) -> bool:
-        """Whether the lines of the right decide about the topic: asked for the first client where
-        the region says it of all, else for each."""
-        clients = right.clients if region.in_part else right.clients[:1]
+        """Whether the lines of the right decide about the topic, if it is one."""
+        if not is_topic(topic):
+            return False
+        clients = asked_for(right, region)
         self.left -= 2 * len(clients)
         return self.left >= 0 and all(
-            self.decides(right, Question(one.client, one.user, topic, right.access))
-            for one in clients)
+            self.decides(right, question(right, one, topic)) for one in clients)
 
     def decides(self, right: Right, asked: Question) -> bool:
         old, new = (one.verdict(asked) for one in (self.lists.current, self.lists.proposed))
         lines = number(right.deciding.current), number(right.deciding.proposed)
         return (old.allowed, new.allowed) == (right.change == LOST, right.change != LOST) and (
             number(old.deciding_line()), number(new.deciding_line())) == lines
+
+
+def is_topic(text: str) -> bool:
+    """Whether mqroute-acl takes it as a topic name. A client id may make another of a `%c`, and a
+    script has publishes that are refused for theirs."""
+    return not has_half(text) and not name_fault(text)
+
+
+def asked_for(right: Right, region: Region) -> list[Client]:
+    """The first client where the region says it of all, else each."""
+    return right.clients if region.in_part else right.clients[:1]
+
+
+def question(right: Right, one: Client, topic: str) -> Question:
+    return Question(one.client, one.user, topic, right.access)
 
 
 def region_of(grant: Row | None, deny: Row | None) -> Region | None:
@@ -244,5 +280,4 @@ def add_scopes(lists: Lists, found: Preview) -> None:
             right.scope = scopes.scope(right)
         rights.sort(key=lambda one: (-one.scope.publishes, breadth(one.scope.filter))
                     if one.scope else (0, (True, 0)))
-    for right in found.granted + found.taken:
-        scopes.exemplify(right)
+    scopes.exemplify(found.granted + found.taken)

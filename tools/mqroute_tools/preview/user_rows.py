@@ -43,9 +43,11 @@ class Sums:
     def __init__(self) -> None:
         self.known: dict[Hashable, Sum] = {}
 
-    def add(self, one: Sum, count: int, places: Iterable[Place]) -> None:
+    def add(self, one: Sum, count: int, places: Iterable[Place]) -> Sum:
         key = one.what, one.because, pair(one.decided)
-        self.known.setdefault(key, one).add(count, places)
+        found = self.known.setdefault(key, one)
+        found.add(count, places)
+        return found
 
     def causes(self) -> list[Cause]:
         """The largest first, those lost before those gained."""

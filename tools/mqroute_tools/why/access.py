@@ -1,4 +1,6 @@
 """The access list that is in force at a line, asked by mqroute-acl."""
+from collections.abc import Iterable
+
 from ..common.tables import shown, user_shown
 from ..script.access_list import REFUSED, AccessList, Line, Question, Verdict
 from .history import History
@@ -8,11 +10,14 @@ class Access:
     def __init__(self, asked: AccessList | None, line: int = 0) -> None:
         self.list, self.line = asked, line  # the line of the script that set it, or 0
 
-    def verdict(self, client: str, user: str | None, topic: str, access: str) -> Verdict | None:
+    def ask_all(self, questions: Iterable[Question]) -> None:
+        """At once, what `verdict` will be asked."""
+        if self.list is not None:
+            self.list.ask_all(questions)
+
+    def verdict(self, asked: Question) -> Verdict | None:
         """None where there is no list, and so all is allowed."""
-        if self.list is None:
-            return None
-        return self.list.verdict(Question(client, user, topic, access))
+        return None if self.list is None else self.list.verdict(asked)
 
     def words(self, verdict: Verdict | None, user: str | None) -> str:
         """What decides."""

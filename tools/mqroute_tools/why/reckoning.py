@@ -5,7 +5,7 @@ from functools import cache
 from typing import Any
 
 from ..common.tables import shown
-from ..script.access_list import Verdict
+from ..script.access_list import Question, Verdict
 from ..script.output import Block, Command
 from ..script.text_faults import name_fault, text_fault
 from . import causes, wording
@@ -76,7 +76,10 @@ class Reckoning:
         if self.publish.block.refused:
             refused = self.refusal()
             return [Answer(client, [refused]) for client in clients]
-        found = [Answer(client, self.causes(client)) for client in clients]
+        ways = {client: self.ways(client) for client in clients}
+        self.access.ask_all(self.may_read(way) for own in ways.values() for way in own
+                            if self.is_asked(way))
+        found = [Answer(client, self.causes(client, own)) for client, own in ways.items()]
         self.look_at_rest()
         self.let_wait(found)
         return found
@@ -103,7 +106,7 @@ class Reckoning:
             return "NotConnected", f"{shown(client)}: {self.absence(client)}", None
         if fault:
             return "TopicName", f"{fault}, and isn't a topic name", None
-        verdict = self.access.verdict(client, session.user, topic, "write")
+        verdict = self.access.verdict(Question(client, session.user, topic, "write"))
         if not may(verdict):
             words = self.access.words(verdict, session.user)
             return "NotAuthorized", f"{shown(client)} may not write it: {words}", verdict
@@ -123,15 +126,30 @@ class Reckoning:
 
     # -- of a client
 
-    def causes(self, client: str) -> list[Cause]:
+    def ways(self, client: str) -> list[Way]:
+        """By its own subscriptions, and by those of its groups."""
         session, topic = self.history.sessions.get(client), self.publish.topic
         if session is None:
-            return [self.no_session(client)]
+            return []
         own, groups = session.matching(topic, False), session.matching(topic, True)
-        if not own and not groups:
-            return [self.no_subscription(client, session)]
-        found = [self.by_own(Way(client, session, own))] if own else []
-        return found + [self.by_group(Way(client, session, [one]), one.filter) for one in groups]
+        found = [Way(client, session, own)] if own else []
+        return found + [Way(client, session, [one], one.filter) for one in groups]
+
+    def causes(self, client: str, ways: list[Way]) -> list[Cause]:
+        if ways:
+            return [self.by_group(way, way.group) if way.group else self.by_own(way)
+                    for way in ways]
+        session = self.history.sessions.get(client)
+        return [self.no_subscription(client, session) if session else self.no_session(client)]
+
+    def may_read(self, way: Way) -> Question:
+        return Question(way.client, way.session.user, self.publish.topic, "read")
+
+    def is_asked(self, way: Way) -> bool:
+        """Whether its cause needs to know whether the client may read the topic."""
+        if (way.client, way.group) in self.copies:
+            return self.one is not None
+        return not way.session.left if way.group else bool(self.taken(way))
 
     def lost(self, client: str) -> list[Lost]:
         """The subscriptions that matched and have ended."""
@@ -160,9 +178,7 @@ class Reckoning:
 
     def by_own(self, way: Way) -> Cause:
         """By a client's own subscriptions: 3.3.4, 3.8.3.1."""
-        copy = self.copies.pop((way.client, None), None)
-        taken = [one for one in way.subscriptions
-                 if not one.no_local or way.client != self.publish.client]
+        copy, taken = self.copies.pop((way.client, None), None), self.taken(way)
         if copy is not None:
             return self.sent(way, taken, copy)
         if not taken:
@@ -184,9 +200,14 @@ class Reckoning:
         self.waiting[way.client] = cause, qos
         return cause
 
+    def taken(self, way: Way) -> list[Subscription]:
+        """But for those with No Local, of what the client published itself."""
+        return [one for one in way.subscriptions
+                if not one.no_local or way.client != self.publish.client]
+
     def reads(self, way: Way) -> Verdict | None:
         """What the list says; a detail of its cause, where the client may read the topic."""
-        verdict = self.access.verdict(way.client, way.session.user, self.publish.topic, "read")
+        verdict = self.access.verdict(self.may_read(way))
         if may(verdict):
             way.details.append(f"may read it: {self.access.words(verdict, way.session.user)}")
         return verdict
@@ -222,7 +243,7 @@ class Reckoning:
 
     def by_group(self, way: Way, group: str) -> Cause:
         """4.8.2. Of the members that are connected and may read, the one with the least turn."""
-        way.group, name = group, f"the group {shown(group)}"
+        name = f"the group {shown(group)}"
         copy = self.copies.pop((way.client, group), None)
         if copy is not None:
             return self.sent(way, way.subscriptions, copy)
