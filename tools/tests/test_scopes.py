@@ -88,9 +88,12 @@ class RandomLists(Case):
         published = Counter({topic: self.chance.randint(1, 9)
                              for topic in self.chance.sample(TOPICS, 40)})
         scopes = Scopes(lists, published)
-        for right in lists.rights()[0]:
-            scope = right.scope = scopes.scope(right)
-            scopes.exemplify(right)
+        rights = lists.rights()[0]
+        for right in rights:
+            right.scope = scopes.scope(right)
+        scopes.exemplify(rights)
+        for right in rights:
+            scope = right.scope
             self.rows += 1
             self.narrow += bool(scope.but_for)
             pairs = [pair for one in right.clients for pair in model.clients(one)]
@@ -141,6 +144,16 @@ class Words(Case):
                          {"filter": "werk/#", "but_for": ["werk/+/+/+/cmd"], "in_part": False,
                           "such_as": {"topic": "werk/pm1/order/1", "publishes": 3},
                           "publishes": 4})
+
+    def test_what_is_no_topic_name(self):
+        """mqroute refuses such a publish, and mqroute-acl takes no such topic: nothing is asked
+        about it, however often it is published."""
+        for day in ([*self.DAY, publish("s", "werk/+"), publish("s", "werk/\ud800")],
+                    [*self.DAY, *[publish("s", "werk/+"), publish("s", "werk/\ud800")] * 9]):
+            self.assertEqual(self.rows("user scada\ntopic read werk/#\n", day=day), [
+                "may no longer write  werk/#  such as werk/pm1/a/b/cmd (5 publishes)"])
+        [right] = self.found("--rules", "mosquitto", "old.acl", "new.acl", "script")["taken"]
+        self.assertEqual(right["publishes"], 9)
 
     def test_no_topic_of_the_day(self):
         """The shortest below the filter: the level above a `#` only where nothing else is left."""
