@@ -7,6 +7,7 @@ import random
 import subprocess
 
 from asked_lists import cases_of, faults_of_who, number_of
+from asked_questions import faults_of_questions
 from changed_plans import faults_of_plan
 from claimed_lists import faults_of_any, faults_of_claims
 from counted_publishes import faults_of_counts
@@ -37,6 +38,7 @@ TOPICS = sorted(
 
 
 CASES = cases_of(USERS, CLIENTS, TOPICS)
+WHO_AND_WHAT = [*CLIENTS, *ODD_NAMES], [*USERS, *ODD_NAMES], TOPICS
 
 
 def random_filter(chance, is_pattern):
@@ -378,6 +380,8 @@ def faults_of_random(rules, folder, count):
         pathlib.Path(folder, "new.acl").write_text(new)
         faults = itertools.chain(
             faults_of_compare(rules, folder, old, new), faults_of_why(rules, folder, chance, old),
+            faults_of_questions(
+                rules, run, folder, random.Random(seed), rows_of(old), WHO_AND_WHAT),
             faults_of_reach(rules, folder, chance, old),
             faults_of_script(rules, folder, chance, old),
             faults_of_needless(rules, folder, lines),
