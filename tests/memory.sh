@@ -10,8 +10,10 @@ failed=0
 
 # KiB of address space: some twice of what the mixed lines take.
 room=7200
-# For mqroute-acl: so many beside its own file, which is in the address space too.
-data=6100
+# For mqroute-acl: so many beside its own file, which is in the address space too. glibc takes memory in pieces of 132 KiB;
+# without that the bound is of what the program asks for.
+data=6050
+export MALLOC_TOP_PAD_=0
 
 say() { # WHETHER_RIGHT TEXT
     if [ "$1" = 0 ]; then
