@@ -1,6 +1,6 @@
 """What a right is of: the filter of the line that grants it, what may narrow that, and a topic of
 the day about which the same lines decide."""
-from collections import Counter
+from collections import Counter, defaultdict
 from collections.abc import Iterator
 from dataclasses import dataclass, field
 from heapq import nsmallest
@@ -98,9 +98,8 @@ class Scopes:
         if is_one_topic(region):
             return
         by_mosquitto = self.lists.rules == MOSQUITTO
-        rows = [*self.denying(grants), *self.allowing(other, right.access)]
-        found = [narrowed(region, [row for row in rows if applies(row, one)])
-                 for one in right.clients]
+        rows = RowsByUser([*self.denying(grants), *self.allowing(other, right.access)])
+        found = [narrowed(region, rows.of(one)) for one in right.clients]
         first = region.filter[0]
         may_be_refused = first.startswith("$") or (region.has_marks and MARK.search(first))
         region.in_part |= (by_mosquitto and bool(may_be_refused)) or any(
@@ -218,11 +217,23 @@ def is_one_topic(region: Region) -> bool:
     return not region.has_marks and not any(map(is_wild, region.filter))
 
 
-def applies(row: Row, client: Client) -> bool:
-    """Whether the row is asked for the client; of `pattern` lines perhaps."""
-    if row.is_pattern:
-        return client.user is not None or "%u" not in row.filter
-    return row.user == client.user
+class RowsByUser:
+    """Rows of which one client is asked few, among lines of thousands of users."""
+
+    def __init__(self, rows: list[Row]) -> None:
+        self.rows = rows
+        self.patterns = [place for place, row in enumerate(rows) if row.is_pattern]
+        self.topics: defaultdict[str | None, list[int]] = defaultdict(list)
+        for place, row in enumerate(rows):
+            if not row.is_pattern:
+                self.topics[row.user].append(place)
+
+    def of(self, client: Client) -> list[Row]:
+        """Those that are asked for the client, in their order; of `pattern` lines perhaps."""
+        places = [*self.topics.get(client.user, ()),
+                  *(place for place in self.patterns
+                    if client.user is not None or "%u" not in self.rows[place].filter)]
+        return [self.rows[place] for place in sorted(places)]
 
 
 def loose(wanted: Levels, marked: bool) -> Levels:
