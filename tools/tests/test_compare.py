@@ -161,7 +161,7 @@ class OfALog(unittest.TestCase):
                             f"{folder}/output")
             peak = tracemalloc.get_traced_memory()[1]
             tracemalloc.stop()
-            self.assertEqual((found.sent, found.lines()), (count, []))
+            self.assertEqual((found.sent, list(found.lines())), (count, []))
             self.assertLess(peak, 1_000_000)
 
 

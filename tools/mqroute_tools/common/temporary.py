@@ -19,6 +19,14 @@ def file(holder: object) -> IO[bytes]:
         return made
 
 
+def unnamed(holder: object) -> IO[bytes]:
+    """The same without a name: nothing of it stays, however the process ends."""
+    with interrupt.held():
+        made = tempfile.TemporaryFile(prefix=PREFIX)
+        weakref.finalize(holder, made.close)
+        return made
+
+
 @contextmanager
 def folder(inside: str | None = None) -> Iterator[Path]:
     """In the place for such folders, or hidden in one that the user named."""

@@ -49,12 +49,11 @@ def run(options: argparse.Namespace) -> int:
     is_kept = options.output != STDIN and plain_file(options.output) is not None
     _, found = read_logs(Watcher, options, logs,
                          lambda watcher: compare(watcher, logs, options.output), again=is_kept)
-    lines = found.lines()
-    for line in lines:
+    for line in found.lines():
         print(line)
     refused = counted(found.refused, "publishes")
     say(f"the broker sent {counted(found.sent, 'copies')} and refused {refused}; "
-        f"{counted(len(lines), 'differences')}")
-    for kind, count in found.kinds(lines):
+        f"{counted(found.kinds.total(), 'differences')}")
+    for kind, count in found.by_kind():
         say(f"{count} {kind}")
-    return 1 if lines else 0
+    return 1 if found.kinds else 0

@@ -1,6 +1,6 @@
 """What differs between a log's own copies and mqroute's, step by step, and of which kind it is."""
 from collections import Counter, defaultdict
-from collections.abc import Iterable, Set
+from collections.abc import Iterable, Iterator, Set
 
 from ..script.output import Command, Key
 from ..script.sessions import Sessions
@@ -10,7 +10,8 @@ from .difference_kinds import (
     MEMBERS_TURN, MQROUTE_REFUSED, OWN_WILL, RETAINED_FOR_GROUP, TESTED_AGAIN, is_will, joined,
     kind, own_will)
 from .held_back import Backlog, Owed
-from .report_line import Line, Refusal, differ
+from .report import Report
+from .report_line import Line, Refusal, differ, line_of
 from .steps import NOBODY, Copy, Event, Step, copy_of
 
 
@@ -22,8 +23,9 @@ class Comparison:
     """The lines to print, and how much was compared."""
 
     def __init__(self) -> None:
-        self.found: list[Line] = []
-        self.refusals: list[Refusal] = []
+        self.found: Report[Line] = Report(line_of)
+        self.refusals: Report[Refusal] = Report(Refusal)
+        self.kinds: Counter[str] = Counter()  # of the lines so far
         self.sent = self.refused = 0
         self.delivered = 0  # copies of mqroute's
         # how many of the broker's copies of an own will may still wait, by client, topic and size
@@ -59,16 +61,23 @@ class Comparison:
             line.kind = self.kind(step, line.key)
             if line.kind == DIFFERENT and ((again and not line.theirs) or step.renamed):
                 line.kind = TESTED_AGAIN
-        owed = waits and self.owe(step, line, again, cut)
-        if line.kind or owed:
-            self.found.append(line)
+        if waits and self.owe(step, line, again, cut):
+            line.number = self.found.number()
+        elif line.kind:
+            self.print(self.found.number(), line)
+
+    def print(self, number: int, line: Line) -> None:
+        """One of which nothing more comes."""
+        self.found.add(number, line)
+        self.kinds[line.kind] += 1
 
     def add_refusals(self, step: Step) -> None:
         one, other = Counter(step.broker.refused), Counter(step.mqroute.refused)
         for key in sorted((one - other) + (other - one)):
             kind = BROKER_REFUSED if one[key] else (
                 DENIED_WILL if is_will(step, key) else MQROUTE_REFUSED)
-            self.refusals.append(Refusal(kind, step.place, key))
+            self.refusals.add(self.refusals.number(), Refusal(kind, step.place, key))
+            self.kinds[kind] += 1
 
     def spread(self, step: Step, key: Key) -> int:
         """How many copies of a message the broker sends: with MQTT 5 one for each subscription."""
@@ -92,8 +101,16 @@ class Comparison:
                 self.users[client] = command.get("user")
             self.sessions.follow(command)
             if do == "disconnect" and not self.sessions.has(client):
-                self.users.pop(client, None)
+                self.forget(client)
         return resumes, again
+
+    def forget(self, client: str) -> None:
+        """A session that has ended: of its filters only those of groups may still name a copy, that
+        is logged all the same."""
+        self.users.pop(client, None)
+        groups, names = self.groups(client), self.sessions.filters.pop(client, {})
+        if groups:
+            self.sessions.filters[client] = {name: names[name] for name in groups}
 
     def resume(self, client: str, user: str | None) -> set[str]:
         """The client, if it has another user name now: what waits for it is tested again."""
@@ -135,7 +152,7 @@ class Comparison:
             if found != BROKERS_TOPIC and ours and joined(theirs + copies) == joined(ours):
                 step.broker.copies[key] = theirs + copies
             else:
-                self.found.append(Line(step.place, key, copies, [], found))
+                self.print(self.found.number(), Line(step.place, key, copies, [], found))
 
     def kind_of(self, event: Event, key: Key, step: Step, resumes: Set[str],
                 copy: Copy) -> str | None:
@@ -159,8 +176,7 @@ class Comparison:
             return None
         if resumes and self.is_due(step, key, copy.size):
             return ""
-        if self.own_wills[*key, copy.size] > 0:
-            self.own_wills[*key, copy.size] -= 1
+        if self.take_own_will((*key, copy.size)):
             return OWN_WILL
         if resumes:
             return "" if step.mqroute.copies.get(key) else event.apart
@@ -170,6 +186,13 @@ class Comparison:
             return RETAINED_FOR_GROUP if copy.retain else MEMBERS_TURN
         return ""
 
+    def take_own_will(self, will: tuple[str, str, int]) -> bool:
+        """Whether a copy of it may still wait; then this is one."""
+        left = self.own_wills.pop(will, 0)
+        if left > 1:
+            self.own_wills[will] = left - 1
+        return left > 0
+
     def is_due(self, step: Step, key: Key, size: int) -> bool:
         """Whether mqroute has more copies of this size at the step than the broker has sent yet."""
         ours, theirs = (sum(copy.size == size for copy in side.copies.get(key, []))
@@ -178,8 +201,11 @@ class Comparison:
 
     def by_group(self, client: str, topic: str) -> bool:
         """Whether a shared subscription of the client may have brought a copy."""
-        groups = (name for name in self.sessions.filters[client] if name.startswith("$share/"))
-        return any(matches(plain_filter(name), topic) for name in groups)
+        return any(matches(plain_filter(name), topic) for name in self.groups(client))
+
+    def groups(self, client: str) -> list[str]:
+        names = self.sessions.filters.get(client, {})
+        return [name for name in names if name.startswith("$share/")]
 
     # -- what it may still send
 
@@ -200,7 +226,7 @@ class Comparison:
             # what was dropped at a return under another name still counts as in flight
             full = cut or step.flying.get(client, False) or client in self.renamed
             late = CUT_OFF if cut else HELD_BACK
-            self.backlog.add(Owed(step, line.key, line, room, full, late, again))
+            self.backlog.add(Owed(step.about(line.key), line.key, line, room, full, late, again))
         return bool(room)
 
     def settle(self, clients: Iterable[str] | None, drained: bool) -> None:
@@ -221,6 +247,8 @@ class Comparison:
                     line.kind = TESTED_AGAIN
                 elif line.kind == DIFFERENT and owed.full and not drained:
                     line.kind = owed.kind
+            if line.kind:
+                self.print(line.number, line)
 
     # -- the result
 
@@ -232,12 +260,12 @@ class Comparison:
             return OWN_WILL
         return found
 
-    def lines(self) -> list[Line | Refusal]:
+    def lines(self) -> Iterator[Line | Refusal]:
+        """All that differs, behind the last step."""
         self.settle(None, drained=False)
-        return [*(line for line in self.found if line.kind), *self.refusals]
+        yield from self.found
+        yield from self.refusals
 
-    @staticmethod
-    def kinds(lines: Iterable[Line | Refusal]) -> list[tuple[str, int]]:
-        """How many of the lines there are of each kind, most first."""
-        count = Counter(line.kind for line in lines)
-        return sorted(count.items(), key=lambda each: (-each[1], each[0]))
+    def by_kind(self) -> list[tuple[str, int]]:
+        """How many of these there are of each kind, most first."""
+        return sorted(self.kinds.items(), key=lambda each: (-each[1], each[0]))

@@ -62,11 +62,6 @@ def lower_qos(theirs: list[Copy], ours: list[Copy]) -> bool:
     return len(here) == len(there) and here != there and all(a >= b for a, b in zip(here, there))
 
 
-def is_of_group(step: Step) -> bool:
-    """Whether mqroute has a copy of a group at the step."""
-    return any(copy.shared for copies in step.mqroute.copies.values() for copy in copies)
-
-
 def kind(step: Step, key: Key) -> str:
     """Names the differences that one step alone explains; the others are `different`."""
     client, topic = key
@@ -83,7 +78,7 @@ def kind(step: Step, key: Key) -> str:
     if (len(theirs) == len(ours) and sorted(c.qos for c in theirs) == sorted(c.qos for c in ours)
             and greatest_retain(theirs) > greatest_retain(ours)):
         return AS_PUBLISHED
-    if not filters and (more or any(c.shared for c in ours)) and is_of_group(step):
+    if not filters and (more or any(c.shared for c in ours)) and step.of_group:
         return MEMBERS_TURN
     if more and any(matches(f, topic) for f in step.shared.get(client, [])):
         return MEMBERS_TURN  # which was away, and now comes back

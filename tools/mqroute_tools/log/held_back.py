@@ -76,10 +76,10 @@ class Flight:
         return {client: count >= limits.get(client, LIMIT) for client, count in counts.items()}
 
 
-@dataclass
+@dataclass(slots=True)
 class Owed:
     """Copies of one topic that mqroute sent a client at one step, and the broker may still send."""
-    step: Step
+    step: Step  # what of it is about these
     key: Key
     line: Line  # of the report
     room: Counter[tuple[int, int]]  # by size and RETAIN flag, how many more may come

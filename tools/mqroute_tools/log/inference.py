@@ -1,4 +1,6 @@
 """The first reading of a log: what shows the state that the broker had when the log began."""
+from array import array
+from bisect import bisect_left, insort
 from collections.abc import Iterable
 from dataclasses import dataclass, field
 from itertools import islice
@@ -15,6 +17,20 @@ from .inferred_subscriptions import Evidence, Inferred, Published
 ALIKE = 100  # topics that are looked at for a publisher
 
 
+class Places:
+    """Numbers of lines, of which there may be many: eight bytes each."""
+
+    def __init__(self) -> None:
+        self.numbers = array("Q")
+
+    def add(self, place: int) -> None:
+        insort(self.numbers, place)
+
+    def __contains__(self, place: int) -> bool:
+        at = bisect_left(self.numbers, place)
+        return at < len(self.numbers) and self.numbers[at] == place
+
+
 @dataclass
 class Beginning:
     """What the script begins with, and what later lines showed of earlier ones."""
@@ -23,9 +39,9 @@ class Beginning:
     inferred: dict[str, set[str]] = field(default_factory=dict)
     # at an UNSUBSCRIBE's line other filters of its client that ended with it
     ends: dict[int, list[str]] = field(default_factory=dict)
-    kept: set[int] = field(default_factory=set)  # lines of connects whose session was resumed later
-    # lines of connects whose session was not there later
-    ended: set[int] = field(default_factory=set)
+    # lines of connects whose session was resumed later, and of those whose session was not there
+    kept: Places = field(default_factory=Places)
+    ended: Places = field(default_factory=Places)
     nameless: set[str] = field(default_factory=set)  # clients whose user name the log doesn't have
     earlier: set[int] = field(default_factory=set)  # lines that end a connection taken over
     fresh: bool = False  # nothing in the log is to be older than its first line

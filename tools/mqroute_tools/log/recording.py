@@ -39,6 +39,10 @@ class Recorder(Watcher):
         self.qos_0: set[str] = set()  # topics that are published with QoS 0
         super().__init__(session_expiry, form, begins)
 
+    def publishes(self, topic: str) -> None:
+        if not self.begins.fresh:
+            Writer.publishes(self, topic)
+
     def explain(self, client: str, topic: str) -> None:
         """Of copies of a log that may show older subscriptions it is said what explains them."""
         if not self.begins.fresh:

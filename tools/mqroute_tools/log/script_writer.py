@@ -63,7 +63,7 @@ class Writer(Converter):
         written = len(self.commands)
         super().emit(place, command, routed)
         if command["do"] == "publish":
-            self.topics.add(command["topic"])
+            self.publishes(command["topic"])
             if command.get("retain") and routed is not False:
                 self.touched.add(command["topic"])
         if self.state is not None:
@@ -129,7 +129,7 @@ class Writer(Converter):
         super().taken_over(client)
         will = self.connected[client].will
         if will:
-            self.topics.add(will["topic"])
+            self.publishes(will["topic"])
 
     def copied(self, sent: log.Publish) -> bool:
         if not super().copied(sent):
@@ -140,6 +140,10 @@ class Writer(Converter):
             if retain and topic not in self.touched:
                 self.shows_older()
         return True
+
+    def publishes(self, topic: str) -> None:
+        """The script may explain copies of the topic."""
+        self.topics.add(topic)
 
     def explain(self, client: str, topic: str) -> None:
         """Counts a copy by what explains it."""

@@ -92,6 +92,9 @@ class Watcher(Writer):
             self.flight.add(client, packet, released)
         return counts
 
+    def publishes(self, topic: str) -> None:
+        """What is explained isn't asked."""
+
     def explain(self, client: str, topic: str) -> None:
         """mqroute's copies show it, where the two are compared."""
 
@@ -196,6 +199,7 @@ def add(step: Step, command: Command, block: Block, name: str) -> None:
     check(command, block, [key for key, _ in copies] if copies else (), name)
     for key, copy in copies:
         step.mqroute.copies[key].append(copy)
+        step.of_group = step.of_group or copy.shared
     if block.refused == "NotAuthorized":
         step.mqroute.refused.append((command["client"], command["topic"]))
 

@@ -9,7 +9,7 @@ from ..script.output import Command, Key
 from .clients import Inferred
 from .mosquitto_log import Publish
 
-Flat = tuple[Any, ...]  # a step, of values that marshal knows
+Flat = tuple[Any, ...]  # a step, or a line of a report, of values that marshal knows
 
 
 @dataclass(order=True, slots=True, frozen=True)
@@ -54,7 +54,7 @@ NOT_FLYING: Mapping[str, bool] = {}
 class Step:
     """The commands of one line of the log, and what the broker did until the next ones."""
     __slots__ = ("place", "commands", "events", "broker", "mqroute", "shared", "old_protocol",
-                 "renamed", "flying")
+                 "renamed", "flying", "of_group")
 
     def __init__(self, place: int) -> None:
         self.place = place
@@ -65,6 +65,17 @@ class Step:
         self.old_protocol: Set[str] = NOBODY  # receivers that speak MQTT 3
         self.renamed = False  # its publish was received under another user name
         self.flying = NOT_FLYING  # in flight: as many as may be?
+        self.of_group = False  # mqroute has a copy of a group
+
+    def about(self, key: Key) -> "Step":
+        """What of it names the kind of one client's copies of one topic: a step with a thousand
+        receivers may be kept for one of them."""
+        one = Step(self.place)
+        one.commands, one.shared, one.of_group = self.commands, self.shared, self.of_group
+        one.old_protocol = self.old_protocol & {key[0]} or NOBODY
+        for side, whole in ((one.broker, self.broker), (one.mqroute, self.mqroute)):
+            side.copies[key] = whole.copies[key]
+        return one
 
     def flat(self) -> Flat:
         """As it was read of a log, of plain values alone, for another process or a file."""

@@ -1,5 +1,6 @@
 """Whether the current list is the one that was in force when the logs were written: what mqroute
 answers under it is compared with the copies that the logs have, as by mqroute-compare-log."""
+from bisect import insort
 from collections import Counter
 from collections.abc import Callable
 from dataclasses import dataclass, field
@@ -97,27 +98,45 @@ def not_asked_for(lists: str) -> Check:
     return Check(NOT_CHECKED, lists, why=NO_CHECK)
 
 
+@dataclass
+class Sums:
+    """Of what a comparison found, of which there may be much."""
+    brokers: int = 0  # copies of the broker's own topics
+    aside: Counter[str] = field(default_factory=Counter)  # differences set aside, by kind
+    copies: int = 0  # of the others
+    differences: int = 0
+    first: list[Found] = field(default_factory=list)  # a few of these, by their lines
+
+    def add(self, one: Found, is_set_aside: Callable[[Found], bool]) -> None:
+        if one.kind == BROKERS_TOPIC:
+            self.brokers += one.copies()
+        elif one.kind in UNEXPLAINED and not is_set_aside(one):
+            self.copies += one.copies()
+            self.differences += 1
+            insort(self.first, one, key=lambda each: each.place)
+            del self.first[SHOWN:]
+        else:
+            self.aside[one.kind] += 1
+
+
 def judged(lists: str, found: Comparison, reader: Recorder, where: Callable[[int], str],
            is_set_aside: Callable[[Found], bool]) -> Check:
     """By the comparison of the logs that this reader read with mqroute's copies; `where` gives the
     file and line."""
-    lines = found.lines()
-    wrong = sorted((one for one in lines if one.kind in UNEXPLAINED and not is_set_aside(one)),
-                   key=lambda one: one.place)
-    brokers = sum(one.copies() for one in lines if one.kind == BROKERS_TOPIC)
-    aside = Counter(one.kind for one in lines if one.kind != BROKERS_TOPIC)
-    aside.subtract(one.kind for one in wrong)
-    check = Check(
-        IN_FORCE, lists, found.sent - brokers, sum(one.copies() for one in wrong), len(wrong),
-        {kind: number for kind, number in sorted(aside.items()) if number})
+    sums = Sums()
+    for one in found.lines():
+        sums.add(one, is_set_aside)
+    check = Check(IN_FORCE, lists, found.sent - sums.brokers, sums.copies, sums.differences,
+                  dict(sorted(sums.aside.items())))
     if not check.copies and (found.delivered or not reader.incoming):
         check.state = NO_COPIES
     elif reader.begins.nameless:
         check.state, check.why = NOT_CHECKED, nameless(len(reader.begins.nameless))
-    elif wrong:
-        check.state, check.first = NOT_IN_FORCE, where(wrong[0].place)
-        check.shown = [str(one) for one in wrong[:SHOWN]]
-        check.why = doubt(check, wrong[0].place, reader, where)
+    elif sums.first:
+        place = sums.first[0].place
+        check.state, check.first = NOT_IN_FORCE, where(place)
+        check.shown = list(map(str, sums.first))
+        check.why = doubt(check, place, reader, where)
         check.state = NOT_CHECKED if check.why else NOT_IN_FORCE
     return check
 

@@ -33,7 +33,7 @@ class Sessions:
     def spread(self, client: str, topic: str) -> int:
         """The greatest number of copies of one message: one for each of the
         client's subscriptions (3.3.4)."""
-        return max(1, sum(matches(name, topic) for name in self.filters[client]))
+        return max(1, sum(matches(name, topic) for name in self.filters.get(client, ())))
 
     def members(self, name: str) -> list[tuple[str, Command]]:
         """The connected clients that have this filter, as of a shared subscription, each with the
