@@ -7,7 +7,7 @@ import shutil
 import sys
 import tempfile
 
-from program import Program
+from program import NothingCounted, Program
 
 FEW = 100
 COMMANDS = 200
@@ -139,4 +139,8 @@ def main():
                                    f"{each:,.0f}"]), "|", flush=True)
 
 
-main()
+if __name__ == "__main__":
+    try:
+        main()
+    except NothingCounted as fault:
+        sys.exit(f"growth: {fault}")

@@ -5,7 +5,7 @@ import subprocess
 import sys
 import tempfile
 
-from program import Program
+from program import NothingCounted, Program
 
 # Label, the script, its first lines that aren't counted, and the access list.
 ROWS = [
@@ -94,4 +94,8 @@ def main():
         print(f"{label}: {counts[0]:,}{shown}", flush=True)
 
 
-main()
+if __name__ == "__main__":
+    try:
+        main()
+    except NothingCounted as fault:
+        sys.exit(f"instructions: {fault}")

@@ -15,6 +15,20 @@ import time
 TUNABLES = "glibc.cpu.x86_rep_stosb_threshold=100000000:glibc.cpu.x86_rep_movsb_threshold=100000000"
 
 
+class NothingCounted(Exception):
+    """Of a dump of callgrind's that says so, or that isn't there."""
+
+
+def instructions(dump):
+    """What a dump of callgrind's counted. None is no number: then the program worked while nothing
+    was counted, as on a machine that is too busy."""
+    found = re.search(r"^totals: (\d+)", dump, re.MULTILINE)
+    if found is None or int(found[1]) == 0:
+        raise NothingCounted("callgrind's dump has no instructions: nothing was counted while the "
+                             "program worked. Try again with less beside")
+    return int(found[1])
+
+
 class Program:
     """With `counted` it runs under callgrind, which counts instructions only while `count` gives it
     a piece: neither the start of the program nor what came before is in the number."""
@@ -47,15 +61,20 @@ class Program:
         return True
 
     def count(self, lines):
-        """Instructions for these lines."""
+        """Instructions for these lines. Raises NothingCounted."""
+        before = self.dumps()
         self.control("-i", "on")
         self.give(lines)
         self.control("-d")
         self.control("-i", "off")
-        newest = max(glob.glob(f"{self.folder.name}/counts.*"),
-                     key=lambda name: int(name.rpartition(".")[2]))
-        with open(newest) as counts:
-            return int(re.search(r"^totals: (\d+)", counts.read(), re.MULTILINE)[1])
+        made = self.dumps() - before
+        if len(made) != 1:
+            raise NothingCounted(f"callgrind wrote {len(made)} dumps, and not one")
+        with open(made.pop()) as dump:
+            return instructions(dump.read())
+
+    def dumps(self):
+        return set(glob.glob(f"{self.folder.name}/counts.*"))
 
     def control(self, *what):
         subprocess.run(["callgrind_control", *what, str(self.process.pid)], check=True,
