@@ -16,6 +16,8 @@ longlist USERS LINES [MARKS]  an access list of LINES lines each for USERS users
                               have %c
 others OTHERS PUBLISHES       publishes to 5 subscribers beside OTHERS subscriptions that
                               don't match
+beside OTHERS                 a client with OTHERS subscriptions that match nothing of the other
+                              scripts: it may come first
 overlapping PUBLISHES         publishes to 5 subscribers, each by three filters with identifiers
 groups GROUPS PUBLISHES       publishes to one of GROUPS shared subscriptions
 leaving FILTERS LEAVES        a client that subscribes to FILTERS filters and leaves LEAVES of them
@@ -56,12 +58,16 @@ def five():
 
 def others(count, publishes):
     five_subscribers()
-    line(do="connect", client="other")
-    for i in range(count):
-        line(do="subscribe", client="other", filter=f"other/{i % 1000}/{i}/state")
+    beside(count)
     for i in range(publishes):
         line(do="publish", client="client-0", topic=f"site/{i % 100}/temperature", payload=f"v={i}",
              qos=1)
+
+
+def beside(count):
+    line(do="connect", client="other")
+    for i in range(count):
+        line(do="subscribe", client="other", filter=f"other/{i % 1000}/{i}/state")
 
 
 def big(size):
@@ -263,6 +269,7 @@ def resuming(away, resumes):
 
 kinds = {"colleagues": colleagues, "overlapping": overlapping, "lasting": lasting,
          "sessions": sessions, "resuming": resuming, "five": five, "big": big, "users": users,
+         "beside": beside,
          "userlist": user_list, "mixed": mixed, "longlist": long_list, "rules": rules,
          "list": access_list, "others": others, "groups": groups, "leaving": leaving,
          "retained": retained, "expiring": expiring, "returning": returning, "refused": refused,

@@ -1,4 +1,5 @@
-"""What bench/ counts: a dump in which nothing was counted is no number."""
+"""What bench/ counts: a dump in which nothing was counted is no number, and rows name their
+worlds."""
 import shutil
 import sys
 import unittest
@@ -7,6 +8,7 @@ from pathlib import Path
 TOP = Path(__file__).resolve().parent.parent
 sys.path.insert(0, str(TOP / "bench"))
 
+import instructions as rows  # noqa: E402
 from program import NothingCounted, Program, instructions  # noqa: E402
 
 DUMP = "events: Ir\nfn=(1) main\n7 5\n\ntotals: {}\n"
@@ -56,6 +58,39 @@ class Counted(unittest.TestCase):
         program.give([b"first\n"])
         self.assertGreater(program.count([b"second\n"]), 0)
         self.assertGreater(program.count([b"third\n"]), 0)
+
+
+class Worlds(unittest.TestCase):
+    def test_named(self):
+        """Each row has a small world and a larger one, and no name comes twice."""
+        names = [f"{row.command} ({world.name})" for row in rows.ROWS for world in row.worlds]
+        self.assertEqual(len(set(names)), len(names))
+        for row in rows.ROWS:
+            with self.subTest(row.command):
+                self.assertGreater(len(row.worlds), 1)
+                self.assertEqual(len(set(row.worlds)), len(row.worlds))
+
+    def test_what_is_counted(self):
+        """Lines of one command, where not all lines of a script are counted."""
+        for row in rows.ROWS:
+            world = row.worlds[0]
+            with self.subTest(row.command):
+                lines, first = rows.lines_of(world)
+                counted = {line.split(b",")[0] for line in lines[first:]}
+                self.assertTrue(first == 0 or len(counted) == 1, counted)
+
+    def test_beside(self):
+        """What stands beside comes first, and isn't counted."""
+        alone = rows.World("", "scripts.py refused 30", 21)
+        lines, first = rows.lines_of(rows.World("", alone.script, alone.first, beside=50))
+        there, alone_first = rows.lines_of(alone)
+        self.assertEqual(lines[first:], there[alone_first:])
+        self.assertEqual(len(lines) - len(there), 51)
+
+    def test_shown(self):
+        row = rows.Row("a connect", rows.World("500 clients", "", 0), rows.World("", "", 0))
+        self.assertEqual(rows.shown(row, row.worlds[0], [300, 200]),
+                         "a connect (500 clients): 300, the yardstick 200: ratio 1.50")
 
 
 if __name__ == "__main__":
