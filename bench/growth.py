@@ -2,22 +2,16 @@
 """Tells what one more command costs beside few and beside many things that it has nothing to do
 with, and the bytes of each such thing: growth.py MANY PROGRAM [YARDSTICK]. Instructions need
 valgrind; without it the bytes alone are shown."""
-import json
 import shutil
 import sys
 import tempfile
 
+from commands import FOREVER, line
 from program import NothingCounted, Program
 
 FEW = 100
 COMMANDS = 200
 MOST_USERS = 10_000  # A list may not be much longer.
-FOREVER = 4_294_967_295
-
-
-def line(do, client="client-0", **fields):
-    return (
-        json.dumps({"do": do, "client": client, **fields}, separators=(",", ":")) + "\n").encode()
 
 
 def subscriptions(n):

@@ -81,6 +81,12 @@ class Program:
                        stdout=subprocess.DEVNULL,
                        stderr=subprocess.DEVNULL)
 
+    def seconds(self):
+        """User time so far."""
+        with open(f"/proc/{self.process.pid}/stat") as stat:
+            ticks = stat.read().rpartition(")")[2].split()[11]
+        return int(ticks) / os.sysconf("SC_CLK_TCK")
+
     def peak(self):
         """Peak memory so far in bytes."""
         with open(f"/proc/{self.process.pid}/status") as status:

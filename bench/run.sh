@@ -114,6 +114,7 @@ else
     echo "Instructions are counted where there is Debian's package valgrind."
 fi
 python3 bench/growth.py 100000 "$program" ${yardstick:+"$yardstick"}
+python3 bench/curves.py "$program" ${yardstick:+"$yardstick"}
 
 for topics in 1000 100000; do
     each "a subscribe that is sent 10 of $topics retained messages" 100000 retained "$topics"

@@ -1,17 +1,22 @@
-"""What bench/ counts: a dump in which nothing was counted is no number, and rows name their
-worlds."""
+"""What bench/ counts and gives: a dump in which nothing was counted is no number, rows name their
+worlds, and hard scripts are what they say."""
 import shutil
 import sys
 import unittest
 from pathlib import Path
 
 TOP = Path(__file__).resolve().parent.parent
-sys.path.insert(0, str(TOP / "bench"))
+sys.path[:0] = [str(TOP / "bench"), str(TOP / "tools")]
 
+import curves  # noqa: E402
+import hostile  # noqa: E402
 import instructions as rows  # noqa: E402
+from mqroute_tools.plain.reader import Reader  # noqa: E402
 from program import NothingCounted, Program, instructions  # noqa: E402
 
 DUMP = "events: Ir\nfn=(1) main\n7 5\n\ntotals: {}\n"
+SMALL = 4  # of a hard script
+REFUSED = {hostile.nested_arrays: SMALL, hostile.unknown_members: 20}  # lines
 
 
 class Dumping(Program):
@@ -91,6 +96,52 @@ class Worlds(unittest.TestCase):
         row = rows.Row("a connect", rows.World("500 clients", "", 0), rows.World("", "", 0))
         self.assertEqual(rows.shown(row, row.worlds[0], [300, 200]),
                          "a connect (500 clients): 300, the yardstick 200: ratio 1.50")
+
+
+class Hard(unittest.TestCase):
+    def answers(self, script):
+        acl = (b"".join(hostile.LISTS[script](SMALL)).decode() if script in hostile.LISTS
+               else None)
+        return b"".join(Reader(acl).answers(script(SMALL)))
+
+    def test_each_is_a_script(self):
+        """Nothing of it is refused, but for lines that are no command."""
+        for script in hostile.SCRIPTS:
+            with self.subTest(script.__name__):
+                said = self.answers(script)
+                self.assertEqual(said.count(b'"refused"'), REFUSED.get(script, 0))
+
+    def test_what_they_do(self):
+        for script, copies in ((hostile.combs, 0), (hostile.overlapping_ids, 3),
+                               (hostile.group_connected, 200), (hostile.group_away, 20),
+                               (hostile.large_message, SMALL), (hostile.long_names, 3 * SMALL),
+                               (hostile.deep_searches, 0), (hostile.queues, 1_000),
+                               (hostile.deep_rows, 100)):
+            with self.subTest(script.__name__):
+                self.assertEqual(self.answers(script).count(b'{"client"'), copies)
+
+    def test_each_has_two_sizes(self):
+        for script, (small, large) in hostile.SCRIPTS.items():
+            self.assertLess(small, large, script.__name__)
+
+    def test_curve(self):
+        few = curves.Taken(1_000, 0.5, 10_000_000)
+        for seconds, wanted in ((1.0, "1.0"), (2.0, "2.0"), (0.5, "0.0")):
+            many = curves.Taken(2_000, seconds, 14_000_000)
+            self.assertEqual(curves.curve(few, many), wanted)
+        self.assertEqual(curves.curve(curves.Taken(1_000, 0.01, 0), many), "-")
+
+    def test_each(self):
+        """A site of 80,000 devices more."""
+        small = curves.Taken(20_000, 1.9, 129_000_000)
+        self.assertEqual(curves.each(small, curves.Taken(100_000, 8.78, 641_000_000)),
+                         ("86.0", "6,400"))
+        self.assertEqual(curves.each(small, curves.Taken(100_000, 8.78, 129_000_500)),
+                         ("86.0", "-"))
+
+    def test_a_program(self):
+        found = curves.taken("cat", hostile.comings, 100)
+        self.assertEqual((found.size, found.peak > 100_000), (100, True))
 
 
 if __name__ == "__main__":
