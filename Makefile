@@ -84,6 +84,8 @@ install: programs
 	for module in $(TOOL_MODULES); do \
 	    install -D -m 644 tools/$$module $(INSTALLED)/lib/mqroute/$$module || exit 1; \
 	done
+	{ PYTHONPATH=tools python3 -B -m mqroute_tools.common.version 2> /dev/null || echo unknown; } > $(INSTALLED)/lib/mqroute/mqroute_tools/VERSION
+	chmod 644 $(INSTALLED)/lib/mqroute/mqroute_tools/VERSION
 	install -m 644 tools/mqroute.py tools/mqroute_strategies.py $(INSTALLED)/lib/mqroute
 	install -m 755 $(TOOLS:%=tools/%.py) $(INSTALLED)/lib/mqroute
 	install -m 644 brokers/differences/*.* $(INSTALLED)/share/mqroute/differences

@@ -6,11 +6,11 @@ set -euo pipefail
 cd "$(dirname "$0")/.."
 umask 022
 
-commit=$(git rev-parse --short=7 HEAD)
-changed=$([ -z "$(git status --porcelain)" ] || echo +)
+version=$(PYTHONPATH=tools python3 -B -m mqroute_tools.common.version) # as the tools' --version says it
+commit=${version#*.}
+commit=${commit%+}
 SOURCE_DATE_EPOCH=$(git log -1 --format=%ct)
 export SOURCE_DATE_EPOCH
-version=$(date -u -d "@$SOURCE_DATE_EPOCH" +%Y%m%d%H%M%S).$commit$changed
 if [ "${1:-}" = --version ]; then
     echo "$version"
     exit

@@ -8,6 +8,8 @@ from collections.abc import Iterator
 from pathlib import Path
 from typing import Any
 
+from mqroute_tools.common import version
+
 HERE = Path(__file__).resolve().parent
 TOP = HERE.parent
 # What stands beside the tools in a clone, and below share/mqroute where they are installed.
@@ -42,6 +44,7 @@ def modules(about: dict[str, Any]) -> Iterator[tuple[str, bytes]]:
              *(HERE / "mqroute_tools").rglob("*.py")]
     for file in sorted(files):
         yield file.relative_to(HERE).as_posix(), file.read_bytes()
+    yield f"mqroute_tools/{version.NAME}", f"{version.version()}\n".encode()
 
 
 def shared(about: dict[str, Any]) -> Iterator[tuple[str, bytes]]:

@@ -63,6 +63,7 @@ def run(name: str) -> int:
         Subcommand, importlib.import_module(f".{SUBCOMMANDS[name].module}", __package__))
     parser = Parser()
     subcommand.add_arguments(parser)
+    parser.add_version()
 
     def work() -> int:
         options = parsed(parser)
@@ -87,9 +88,10 @@ def chosen() -> str:
     from .common.arguments import Parser
     listed = "".join(f"  {name:13}  {entry.summary}\n" for name, entry in SUBCOMMANDS.items())
     parser = Parser(
-        usage=f"{NAME} [-h] SUBCOMMAND ..",
+        usage=f"{NAME} [-h] [--version] SUBCOMMAND ..",
         description="Tools between mqroute and a real broker. Each subcommand has --help.",
         epilog=f"subcommands:\n{listed}", formatter_class=argparse.RawDescriptionHelpFormatter)
+    parser.add_version()
     parser.add_argument(
         "subcommand", metavar="SUBCOMMAND", choices=SUBCOMMANDS, help=argparse.SUPPRESS)
     rest = parser.add_argument("arguments", nargs=argparse.REMAINDER, help=argparse.SUPPRESS)

@@ -11,6 +11,7 @@ from pathlib import Path
 
 from test_command_line import help_behind_name
 from worked import HERE, TOP
+from mqroute_tools.common.version import version
 
 # which make install needs
 BUILT = [TOP / f"crates/{name}/out/{name}" for name in ("mqroute", "mqroute_acl")]
@@ -193,6 +194,9 @@ class Installed(unittest.TestCase):
             compiled = [*modules.rglob("*.pyc")]
             self.assertEqual(len(compiled), len([*modules.rglob("*.py")]))
             self.named_as_installed(folder)
+            said = subprocess.run([f"{folder}/bin/mqroute-why", "--version"], capture_output=True,
+                                  text=True)
+            self.assertEqual(said.stdout, f"mqroute-why {version()}\n")
             self.subcommands(folder)
             self.completed(folder)
             self.make("uninstall", folder)

@@ -6,6 +6,7 @@ import unittest
 from pathlib import Path
 
 from worked import HERE, TOP
+from mqroute_tools.common.version import version
 
 CONNECT = {"do": "connect", "client": "a"}
 
@@ -35,6 +36,9 @@ class Wheel(unittest.TestCase):
             shown = subprocess.run([found / "mqroute-check", TOP / "tests/rows/first-look.jsonl"],
                                    capture_output=True, text=True, env=env)
             self.assertEqual(shown.returncode, 0, shown.stderr)
+            said = subprocess.run([found / "mqroute-check", "--version"], capture_output=True,
+                                  text=True, env=env)
+            self.assertEqual(said.stdout, f"mqroute-check {version()}\n")
             shared = Path(folder, "venv/share/mqroute")
             self.assertTrue((shared / "conformance/09-groups/cases.json").exists())
             self.assertTrue((shared / "differences/rabbitmq").is_dir())
