@@ -12,28 +12,56 @@ from .common import interrupt
 if TYPE_CHECKING:
     from argparse import ArgumentParser, Namespace
 
+    from .common.arguments import Parser
+
 NAME = "mqroute-tools"
 
 
 class Entry(NamedTuple):
     module: str
     summary: str  # on one line of 80 columns, in the list
+    example: str  # arguments
+    nothing: str  # what status 0 says
+    something: str  # and status 1
+
+    def closing(self, name: str) -> str:
+        """Of the help."""
+        return (f"\nexample: mqroute-{name} {self.example}\n"
+                f"status: 0 {self.nothing}; 1 {self.something}; 2 misuse or no answer\n")
 
 
 SUBCOMMANDS = {
-    "log-to-script": Entry("log.log_to_script", "makes a script for mqroute of a mosquitto log"),
+    "log-to-script": Entry(
+        "log.log_to_script", "makes a script for mqroute of a mosquitto log",
+        "mosquitto.log > day.jsonl", "all of the log is in the script",
+        "something isn't, or a copy of the broker isn't explained"),
     "who-loses": Entry(
-        "losses.who_loses", "shows who loses which copies between two runs of a script"),
-    "why": Entry("why.why", "shows why a client was sent a message of a script, or wasn't"),
-    "preview": Entry("preview.preview", "shows what a proposed access list would change"),
-    "plan": Entry("plan.plan", "shows what becomes of lists and scripts if topics are renamed"),
-    "replay": Entry("live.replay", "runs a script on a live broker and compares with mqroute"),
+        "losses.who_loses", "shows who loses which copies between two runs of a script",
+        "--by user day.jsonl before.out after.out", "nothing changes", "something does"),
+    "why": Entry(
+        "why.why", "shows why a client was sent a message of a script, or wasn't",
+        "--acl-file acl day.jsonl 12 dashboard",
+        "the client was sent the message, or no client was given", "it wasn't"),
+    "preview": Entry(
+        "preview.preview", "shows what a proposed access list would change",
+        "current.acl proposed.acl mosquitto.log", "nothing changes", "something does"),
+    "plan": Entry(
+        "plan.plan", "shows what becomes of lists and scripts if topics are renamed",
+        "check --script day.jsonl plan", "nothing needs a look", "something does"),
+    "replay": Entry(
+        "live.replay", "runs a script on a live broker and compares with mqroute",
+        "--port 1883 day.jsonl day.out", "nothing differs", "something does"),
     "compare-log": Entry(
-        "log.compare_log", "compares a mosquitto log's own copies with mqroute's"),
-    "check": Entry("script.check", "names what is wrong in a script's lines"),
+        "log.compare_log", "compares a mosquitto log's own copies with mqroute's",
+        "mosquitto.log day.out", "no copy differs", "one does"),
+    "check": Entry(
+        "script.check", "names what is wrong in a script's lines",
+        "day.jsonl", "no line is wrong", "one is"),
     "search": Entry(
-        "search.search", "searches for differences between a live broker and mqroute"),
+        "search.search", "searches for differences between a live broker and mqroute",
+        "--port 1883 --scripts 500", "nothing is found that isn't known", "something is"),
 }
+HELP = "help"
 
 
 class Subcommand(Protocol):
@@ -64,6 +92,7 @@ def run(name: str) -> int:
     parser = Parser()
     subcommand.add_arguments(parser)
     parser.add_version()
+    parser.closing = SUBCOMMANDS[name].closing(name)
 
     def work() -> int:
         options = parsed(parser)
@@ -84,21 +113,31 @@ def main() -> int:
 
 def chosen() -> str:
     """The subcommand, whose arguments are those of the process from here on."""
+    parser = of_all()
+    options = parser.parse_args()
+    while options.subcommand == HELP:
+        options = parser.parse_args([*options.arguments, "--help"])
+    sys.argv = [f"{NAME} {options.subcommand}", *options.arguments]
+    return str(options.subcommand)
+
+
+def of_all() -> "Parser":
     import argparse
     from .common.arguments import Parser
     listed = "".join(f"  {name:13}  {entry.summary}\n" for name, entry in SUBCOMMANDS.items())
     parser = Parser(
         usage=f"{NAME} [-h] [--version] SUBCOMMAND ..",
-        description="Tools between mqroute and a real broker. Each subcommand has --help.",
+        description="Tools between mqroute and a real broker. Each subcommand has --help;\n"
+        f"`{HELP} SUBCOMMAND` shows the same.",
         epilog=f"subcommands:\n{listed}", formatter_class=argparse.RawDescriptionHelpFormatter)
+    parser.closing = (f"\nexample: {NAME} check day.jsonl\n"
+                      "status: as the subcommand; 2 if there is none of this name\n")
     parser.add_version()
-    parser.add_argument(
-        "subcommand", metavar="SUBCOMMAND", choices=SUBCOMMANDS, help=argparse.SUPPRESS)
+    parser.add_argument("subcommand", metavar="SUBCOMMAND", choices=[*SUBCOMMANDS, HELP],
+                        help=argparse.SUPPRESS)
     rest = parser.add_argument("arguments", nargs=argparse.REMAINDER, help=argparse.SUPPRESS)
     rest.required = False  # by itself from Python 3.12 on
-    options = parser.parse_args()
-    sys.argv = [f"{NAME} {options.subcommand}", *options.arguments]
-    return str(options.subcommand)
+    return parser
 
 
 def log_to_script() -> int:

@@ -1,4 +1,5 @@
 """The command line: each subcommand under its own name and under that of all."""
+import importlib
 import os
 import re
 import subprocess
@@ -7,8 +8,9 @@ import tempfile
 import unittest
 from pathlib import Path
 
-from worked import HERE
+from worked import HERE, TOP
 from mqroute_tools.cli import SUBCOMMANDS
+from mqroute_tools.common.arguments import Parser
 
 ALL = [sys.executable, "-m", "mqroute_tools"]
 
@@ -48,8 +50,42 @@ class Names(unittest.TestCase):
         self.assertEqual((lines, done.returncode), ([*SUBCOMMANDS], 0))
         self.assertEqual(said([HERE / "tools.py", "--help"]).stdout, done.stdout)
 
+    def test_help(self):
+        """`help check` is `check --help`, and `help` alone the list."""
+        for words, same in ((["help"], ["--help"]), (["help", "check"], ["check", "--help"]),
+                            (["help", "plan", "acl"], ["plan", "acl", "--help"]),
+                            (["help", "help"], ["--help"])):
+            done = said([*ALL, *words])
+            self.assertEqual((done.returncode, done.stderr), (0, ""))
+            self.assertEqual(done.stdout, said([*ALL, *same]).stdout)
+
+    def test_end_of_the_help(self):
+        """An example that the tool takes, and its statuses as docs/reference/statuses.md has
+        them."""
+        page = (TOP / "docs/reference/statuses.md").read_text("utf-8")
+        rows = dict(re.findall(r"^\| `mqroute-([\w-]+)` \| (.*) \|$", page, re.M))
+        for name, entry in SUBCOMMANDS.items():
+            with self.subTest(name):
+                *_, example, statuses = said([*ALL, name, "--help"]).stdout.splitlines()
+                self.assertEqual(example, f"example: mqroute-{name} {entry.example}")
+                nothing, something = (re.split(r"[.:] ", cell)[0]
+                                      for cell in rows[name].split(" | "))
+                self.assertEqual(
+                    statuses,
+                    f"status: 0 {nothing}; 1 {something}; 2 misuse or no answer")
+                parser = Parser()
+                module = importlib.import_module(f"mqroute_tools.{entry.module}")
+                module.add_arguments(parser)
+                words = entry.example.partition(" > ")[0].split()
+                self.assertTrue(vars(parser.parse_args(words)))
+        self.assertEqual(rows["tools"], "as the subcommand | as the subcommand")
+        self.assertEqual(said([*ALL, "--help"]).stdout.splitlines()[-2:], [
+            "example: mqroute-tools check day.jsonl",
+            "status: as the subcommand; 2 if there is none of this name"])
+
     def test_no_such_subcommand(self):
         for words, shown in ((["fly"], "invalid choice: 'fly'"), ([], "required: SUBCOMMAND\n"),
+                             (["help", "fly"], "invalid choice: 'fly'"),
                              (["--fly", "check"], "unrecognized arguments: --fly")):
             done = said([*ALL, *words])
             self.assertEqual((done.returncode, done.stdout), (2, ""))

@@ -80,6 +80,7 @@ class Tab(unittest.TestCase):
         self.assertEqual(self.words(tools, "mqroute-log-to-script --sta\tne\t"),
                          ["--state", FILES[0]])
         self.assertEqual(self.words(tools, "mqroute-tools who\t"), ["who-loses"])
+        self.assertEqual(self.words(tools, "mqroute-tools he\tsea\t"), ["help", "search"])
         self.assertEqual(self.words(tools, "mqroute-why --ver\t"), ["--version"])
         self.assertEqual(self.words(tools, "mqroute-plan che\t--acl\tne\t"),
                          ["check", "--acl-file", FILES[0]])

@@ -13,9 +13,13 @@ if TYPE_CHECKING:
 class Parser(argparse.ArgumentParser):
     """What it says of an argument stands on one line, whatever the argument holds. That it can't
     print its help is said, as where anything else can't be printed."""
+    closing = ""  # lines behind the help, as they stand
 
     def add_version(self) -> None:
         self.add_argument("--version", action=ShowVersion, help="show the version and exit")
+
+    def format_help(self) -> str:
+        return super().format_help() + self.closing
 
     def error(self, message: str) -> NoReturn:
         if sys.stderr is None:  # argparse would take standard output
