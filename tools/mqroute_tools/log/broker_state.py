@@ -3,15 +3,12 @@ subscriptions, retained messages."""
 from collections.abc import Iterator
 from dataclasses import dataclass, field
 
+from ..script.commands import connect_command
 from ..script.output import Command
 from ..script.sessions import FOREVER
 
 UNSHOWN = FOREVER - 1  # of a session of MQTT 5 of which the log doesn't show whether it is kept
 WITHOUT_RETAINED = 2  # Retain Handling: nothing is sent at the subscribe
-
-
-def connect_command(client: str, user: str | None) -> Command:
-    return {"do": "connect", "client": client} | ({} if user is None else {"user": user})
 
 
 def publish(client: str, topic: str, size: int, qos: int, retain: bool) -> Command:

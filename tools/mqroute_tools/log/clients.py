@@ -4,10 +4,11 @@ from collections.abc import Mapping
 from functools import lru_cache
 from typing import Any
 
+from ..script.commands import connect_command
 from ..script.output import Command
 from ..script.sessions import FOREVER
 from ..script.topics import matches, plain_filter
-from .broker_state import State, connect_command
+from .broker_state import State
 from .conversion_notes import Notes
 
 MQTT_3_1 = 1  # as the log has it: 1 is 3.1, 2 is 3.1.1, 5 is 5

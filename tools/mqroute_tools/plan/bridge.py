@@ -5,10 +5,11 @@ from collections.abc import Iterable
 
 from ..common.exit_status import Fault
 from ..common.files import at
-from ..common.texts import quoted
+from ..script.commands import connect_command
 from ..script.oracle import Oracle, OracleFault
-from ..script.output import Answer, Command, command_of
+from ..script.output import Answer, Command
 from ..script.strict_json import NoJson, read
+from .added_client import refuse_taken
 from .filters import Levels, is_wild, levels, text_of
 from .remarks import chained
 from .script_translation import Moved, NewScript, text_of_command
@@ -59,18 +60,17 @@ class Bridge:
 
     def beginning(self) -> list[Command]:
         """It connects and subscribes to both sides of each rule."""
-        named = {} if self.user is None else {"user": self.user}
         rules = [rule for rule in self.plan.rules if rule.moves]
         filters = dict.fromkeys(
             text_of(side) for rule in rules for side in (rule.from_filter, rule.to_filter))
-        return [{"do": "connect", "client": self.client} | named,
+        return [connect_command(self.client, self.user),
                 *({"do": "subscribe", "client": self.client, "filter": wanted, "qos": 2,
                    "no_local": True, "rap": True} for wanted in filters)]
 
     def carry(self, made: NewScript) -> int:
         """Puts its lines into the script: before the first line, and behind each that it is sent
         something at. How many there are."""
-        self.refuse_taken(made.old)
+        refuse_taken(made.old, self.client, "the bridge otherwise, by --bridge")
         try:
             begin = [text_of_command(command) for command in self.beginning()]
             self.fed(begin)
@@ -86,11 +86,6 @@ class Bridge:
             self.oracle.close()
         made.lines[:1] = [begin + lines for lines in made.lines[:1]]
         return count
-
-    def refuse_taken(self, lines: list[bytes]) -> None:
-        if any((command_of(line) or {}).get("client") == self.client for line in lines):
-            raise Fault(f"the script has a client {quoted(self.client)} of its own: name the "
-                        "bridge otherwise, by --bridge")
 
     def fed(self, lines: list[bytes]) -> list[Answer]:
         """What mqroute answers to lines; an invalid line changes nothing."""

@@ -5,6 +5,7 @@ import sys
 
 from ..common.files import whole
 from ..common.messages import counted, own_name, say
+from .added_client import client_and_user
 from .bridge import Bridge, moved_clients
 from .check import report_script
 from .report import Report
@@ -36,9 +37,9 @@ def run(options: argparse.Namespace) -> int:
 def bridge_of(options: argparse.Namespace, plan: Plan) -> Bridge | None:
     if options.moved is None or options.no_bridge:
         return None
-    client, _, user = (options.bridge or BRIDGE).partition(":")
+    client, user = client_and_user(options.bridge or BRIDGE)
     acl = None if options.acl_file is None else read_text(options.acl_file)
-    return Bridge(plan, client, user or None, acl)
+    return Bridge(plan, client, user, acl)
 
 
 def write(made: NewScript, old: str | None) -> None:

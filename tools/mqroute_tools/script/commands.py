@@ -43,6 +43,10 @@ REQUIRED = {do: {name for name, field in fields.items() if field.required}
             for do, fields in COMMANDS.items()}
 
 
+def connect_command(client: str, user: str | None) -> Command:
+    return {"do": "connect", "client": client} | ({} if user is None else {"user": user})
+
+
 def shown(value: Any) -> str:
     text = json_text(value)
     return text if len(text) <= LONGEST_SHOWN else text[:LONGEST_SHOWN] + ".."
