@@ -18,7 +18,7 @@ BUILT = [TOP / f"crates/{name}/out/{name}" for name in ("mqroute", "mqroute_acl"
 TOOLS = ("log_to_script", "who_loses", "why", "preview", "plan", "replay", "compare_log", "check",
          "search", "tools")
 # Tools with commands, each of which has a --help of its own.
-COMMANDS = {"plan": ("check", "name", "acl", "script", "compare")}
+COMMANDS = {"plan": ("check", "name", "acl", "script", "retained", "compare")}
 SECTIONS = ["NAME", "SYNOPSIS", "DESCRIPTION", "OPTIONS", "EXIT STATUS", "EXAMPLES", "SEE ALSO"]
 PROGRAMS = ("mqroute", "mqroute-acl")
 OVERVIEW = "mqroute.7"

@@ -2,6 +2,9 @@
 import argparse
 
 from ..common.messages import counted
+from .day_end import day_end, under
+from .kept import kept_of
+from .kept_report import report_kept
 from .list_translation import notes_on, translated
 from .remarks import remarks
 from .report import Report, write
@@ -17,11 +20,15 @@ def run(options: argparse.Namespace) -> int:
     for remark in remarks(plan):
         report.remark(plan.name, remark.line, remark.words)
     translator = Translator(plan)
+    lines = [] if options.script is None else read_lines(options.script)
+    acl = None if options.acl_file is None else read_text(options.acl_file)
     if options.script is not None:
-        made = rewritten(translator, read_lines(options.script))
-        report_script(report, translator, options.script, made)
-    if options.acl_file is not None:
-        report_list(report, translator, options.acl_file)
+        end = day_end(lines, under(acl, options.acl_file))
+        kept = kept_of(translator, end, acl is not None)
+        report_kept(report, plan.name, options.script, kept)
+        report_script(report, translator, options.script, rewritten(translator, lines))
+    if acl is not None:
+        report_list(report, translator, options.acl_file, acl)
     write(report.text(options.json))
     return int(report.odd)
 
@@ -36,8 +43,7 @@ def report_script(report: Report, translator: Translator, script: str, made: New
             report.remark(script, number, f"line {note.line} of the list: {note.words}")
 
 
-def report_list(report: Report, translator: Translator, name: str) -> None:
-    text = read_text(name)
+def report_list(report: Report, translator: Translator, name: str, text: str) -> None:
     made = translated(translator, text, name)
     found = notes_on(translator.plan, made, text, name)
     report.blank()

@@ -8,10 +8,10 @@ import argparse
 
 from ..common.exit_status import UsageFault
 from ..common.files import keep_apart, refuse_stdin_twice
-from . import acl, check, compare, name, script
+from . import acl, check, compare, name, retained, script
 
 RUN = {"check": check.run, "name": name.run, "acl": acl.run, "script": script.run,
-       "compare": compare.run}
+       "retained": retained.run, "compare": compare.run}
 PLAN = "the plan: lines FROM -> TO, keep FROM and none FROM"
 DESCRIPTION = """Shows what becomes of lists, scripts and subscriptions if topics are renamed by a
 plan. A plan has a rule on each line, and the first whose FROM matches a topic decides about it.
@@ -29,6 +29,8 @@ def add_arguments(parser: argparse.ArgumentParser) -> None:
                               "subscriptions"))
     add_acl(found.add_parser("acl", help="writes an access list under the plan"))
     add_script(found.add_parser("script", help="writes a script under the plan"))
+    add_retained(found.add_parser("retained", help="writes a script that moves what is retained "
+                                  "under old names to the new ones"))
     add_compare(found.add_parser("compare", help="shows which clients of a script under new names "
                                  "don't subscribe to what they did in one under old names"))
 
@@ -71,6 +73,16 @@ def add_script(parser: argparse.ArgumentParser) -> None:
                         help="with --moved: nothing carries messages over")
     parser.add_argument("--acl-file", metavar="LIST", help="with --moved: the list under which the "
                         "bridge is sent messages")
+
+
+def add_retained(parser: argparse.ArgumentParser) -> None:
+    parser.add_argument("plan", help=PLAN)
+    parser.add_argument("script", help="a script under old names; what is retained at its end")
+    parser.add_argument("--both", action="store_true",
+                        help="keep what is retained under old names too, while both are in use")
+    parser.add_argument("--client", metavar="ID[:USER]", help="the client id and the user name of "
+                        "the client that publishes (plan-mover, none)")
+    parser.add_argument("--acl-file", metavar="LIST", help="the list under which the script runs")
 
 
 def look_at_files(options: argparse.Namespace) -> None:

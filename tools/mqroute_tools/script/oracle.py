@@ -229,6 +229,10 @@ class Oracle:
 
     def script_blocks(self, script: bytes) -> list[Block]:
         """The answers to a script as a file has it."""
-        if not self.is_plain:
-            return answers(self.words, script)
-        return list(blocks_in(b"".join(self.reader().answers(io.BytesIO(script)))))
+        return list(self.each_block(script))
+
+    def each_block(self, script: bytes) -> Iterator[Block]:
+        """The same, one after another."""
+        if self.is_plain:
+            return blocks_in(b"".join(self.reader().answers(io.BytesIO(script))))
+        return each_answer(self.words, [script])
