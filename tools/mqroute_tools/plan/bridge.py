@@ -52,6 +52,13 @@ def other_name(plan: Plan, topic: str) -> str | None:
     return None if other in (None, name) else text_of(other or ())
 
 
+def both_sides(plan: Plan) -> list[str]:
+    """The filters that a bridge subscribes to."""
+    rules = [rule for rule in plan.rules if rule.moves]
+    return list(dict.fromkeys(
+        text_of(side) for rule in rules for side in (rule.from_filter, rule.to_filter)))
+
+
 class Bridge:
     def __init__(self, plan: Plan, client: str, user: str | None, acl: str | None) -> None:
         refuse_chains(plan)
@@ -60,12 +67,9 @@ class Bridge:
 
     def beginning(self) -> list[Command]:
         """It connects and subscribes to both sides of each rule."""
-        rules = [rule for rule in self.plan.rules if rule.moves]
-        filters = dict.fromkeys(
-            text_of(side) for rule in rules for side in (rule.from_filter, rule.to_filter))
         return [connect_command(self.client, self.user),
                 *({"do": "subscribe", "client": self.client, "filter": wanted, "qos": 2,
-                   "no_local": True, "rap": True} for wanted in filters)]
+                   "no_local": True, "rap": True} for wanted in both_sides(self.plan))]
 
     def carry(self, made: NewScript) -> int:
         """Puts its lines into the script: before the first line, and behind each that it is sent
