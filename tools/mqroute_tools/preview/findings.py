@@ -4,6 +4,7 @@ from dataclasses import asdict, dataclass, field
 from typing import Any
 
 from ..losses.findings import Place, Totals
+from ..plan.kept import Kept
 from ..script.access_list import Line
 from .gathered_topics import Topics
 from .in_force import Check
@@ -160,6 +161,26 @@ class Carried:
 
 
 @dataclass
+class KeptNames:
+    """What the broker has under old names when the script ends, and the file that moves what is
+    retained, where that stays."""
+    kept: Kept
+    file: str | None
+
+    def hint(self) -> str:
+        """How the retained messages are moved; empty where none is."""
+        if not self.kept.renamed():
+            return ""
+        does = "moves" if self.kept.moved() else "clears"
+        if self.file is None:
+            return f"With --keep FOLDER a script stays that {does} them."
+        return f"{self.file} is a script that {does} them."
+
+    def json(self) -> Json:
+        return self.kept.json() | {"script": self.file if self.kept.renamed() else None}
+
+
+@dataclass
 class Remark:
     """A remark of `mqroute-acl lint`. Of a whole list it has no line."""
     kind: str
@@ -192,6 +213,7 @@ class Preview:
     could_keep: bool = False  # whether with --keep the causes would have commands
     plan: str | None = None
     carried: list[Carried] = field(default_factory=list)
+    kept: KeptNames | None = None  # with a plan
 
     def changes(self) -> bool:
         """Whether anything does, or isn't known; remarks don't count."""
@@ -216,7 +238,8 @@ class Preview:
             "subscriptions": len(self.subscriptions)}
 
     def json(self, summary: str) -> Json:
-        by_plan = {"plan": self.plan, "carried": as_objects(self.carried)} if self.plan else {}
+        by_plan = {"plan": self.plan, "carried": as_objects(self.carried),
+                   "kept": self.kept and self.kept.json()} if self.plan else {}
         return {"current": self.current, "proposed": self.proposed, "sources": self.sources,
                 "rules": self.rules, "in_force": self.check and self.check.json(),
                 "conf": self.conf, "said": self.said,

@@ -16,16 +16,20 @@ from ..losses import acl_verdicts
 from ..losses.comparison import Losses, compare, findings
 from ..losses.findings import Totals
 from ..losses.report_rows import Reasons
+from ..plan.kept import moving_script, script_text
+from ..plan.regions import fresh
+from ..plan.retained import MOVER
 from ..plan.topic_plan import read_plan
 from ..script.access_list import AccessList
-from ..script.oracle import found_program
+from ..script.oracle import each_answer, found_program
+from ..script.output import command_of
 from ..script.rules import MOSQUITTO
 from .acl_answers import Lists
 from .by_conf import ByConf
 from .findings import (
-    GAINED, LOST, Cause, Preview, RefusedRow, Remark, Right, Subscription, UserRow)
+    GAINED, LOST, Cause, KeptNames, Preview, RefusedRow, Remark, Right, Subscription, UserRow)
 from .in_force import Check, NoAnswer, judged, not_asked_for
-from .kept_folder import AFTER, BEFORE, CHECKED, NEW, SCRIPT
+from .kept_folder import AFTER, BEFORE, CHECKED, NEW, RETAINED, SCRIPT
 from .list_rows import users_of
 from .plan_losses import PlanLosses
 from .reload import reload_of
@@ -39,7 +43,7 @@ from .why_command import LIMITS, WhyCommand
 STEPS = ("comparing the lists", "looking for remarks", "reading what clients did",
          "trying the current list", "looking at subscriptions", "trying the proposed list",
          "comparing what was delivered", "looking whether the current list was in force")
-BY_PLAN = *STEPS[:3], "renaming topics", *STEPS[3:]
+BY_PLAN = *STEPS[:3], "renaming topics", *STEPS[3:], "looking at what is retained"
 MOST_USERS = 8  # that are named
 
 
@@ -105,9 +109,13 @@ def gathered(options: argparse.Namespace, folder: Path, steps: Steps) -> Preview
         renaming = Renaming(plan, script, folder)
     trial = Trial(options, lists, script, renaming, folder, steps)
     differences, check = trial.run_both(answers)
+    kept = None
+    if renaming is not None:
+        steps.next()
+        kept = kept_under(options, lists, renaming, folder)
     steps.clear()
     found = put_together(options, lists, script, renaming, answers, differences)
-    found.check, found.said = check, said_of(options, script)
+    found.check, found.said, found.kept = check, said_of(options, script), kept
     if options.by_conf:
         options.by_conf.leave_out(found)
         options.by_conf.name_users(found)
@@ -247,11 +255,28 @@ def asked_first(lists: Lists, steps: Steps) -> Answers:
 def run(options: argparse.Namespace, lists: Lists, one: AccessList, script: str,
         output: Path) -> None:
     """mqroute, on the script, under one of the lists."""
-    words = [found_program(), f"--acl-file={one.path}", f"--rules={options.rules}"]
-    words += [f"--{name.replace('_', '-')}={getattr(options, name)}" for name in LIMITS
-              if getattr(options, name) is not None]
     with open(output, "xb") as out:
-        output_of([*words, "--", script], lists.named, out=out.fileno())
+        output_of([*mqroute_under(options, one), "--", script], lists.named, out=out.fileno())
+
+
+def mqroute_under(options: argparse.Namespace, one: AccessList) -> list[str]:
+    """The words that run it under a list."""
+    words = [found_program(), f"--acl-file={one.path}", f"--rules={options.rules}"]
+    return words + [f"--{name.replace('_', '-')}={getattr(options, name)}" for name in LIMITS
+                    if getattr(options, name) is not None]
+
+
+def kept_under(options: argparse.Namespace, lists: Lists, renaming: Renaming,
+               folder: Path) -> KeptNames:
+    """What the broker has under old names, with a script that moves it."""
+    words = mqroute_under(options, lists.current)
+    kept = renaming.kept(lambda script: each_answer(words, [script]))
+    clients = {str(command.get("client")) for command in map(command_of, renaming.made.old)
+               if command}
+    made = moving_script(kept, fresh(MOVER, clients), None, False)
+    if made:
+        (folder / RETAINED).write_bytes(script_text(made))
+    return KeptNames(kept, None if options.keep is None else os.path.join(options.keep, RETAINED))
 
 
 def compared(lists: Lists, script: Script, before: str, after: str) -> Differences:

@@ -7,13 +7,14 @@ from ..common.files import whole
 from ..common.messages import counted, named
 from ..common.page_frame import ENDING, beginning
 from ..losses.html_escape import escaped
-from .findings import Preview
+from ..plan.kept import AWAY as STAYS_AWAY, STAYS
+from .findings import KeptNames, Preview
 from .list_commit import commit_of
 from .page_rows import Rows
 from .page_style import STYLE
 from .share_picture import picture
 from .verdict import verdict
-from .words import CARRIED, NOT_ASKED, summary, tried
+from .words import AWAY, CARRIED, NOT_ASKED, RETAINED, summary, tried
 
 TITLE = "A new access list: who loses, who gains, what is newly allowed"
 PLAN_TITLE = "New topics and a new access list: who loses, who gains, what is newly allowed"
@@ -56,11 +57,24 @@ def parts(found: Preview, title: str) -> Iterator[str]:
         yield section("Subscriptions that can receive nothing any more", rows.subscriptions())
     if found.carried:
         yield section(CARRIED, rows.carried())
+    if found.kept:
+        yield from kept_sections(found.kept, rows)
     if found.remarks:
         yield section(f"New remarks on {file(found.proposed)}", rows.remarks())
     yield notes(found)
     yield f"<p id='reload'>{escaped(found.reload.words())}</p>\n"
     yield f"<p id='summary'>{escaped(summary(found))}</p>\n{ENDING}"
+
+
+def kept_sections(names: KeptNames, rows: Rows) -> Iterator[str]:
+    """What the broker has under old names."""
+    kept = names.kept
+    notes = f"<p class='unknown'>{escaped(kept.unknown())}</p>\n"
+    if kept.moves:
+        words = f"<p>{escaped(f'{STAYS} {names.hint()}')}</p>\n"
+        yield section(RETAINED, words + rows.retained(kept) + notes)
+    if kept.sessions:
+        yield section(AWAY, f"<p>{escaped(STAYS_AWAY)}</p>\n{rows.away(kept)}{notes}")
 
 
 def section(head: str, inside: str) -> str:

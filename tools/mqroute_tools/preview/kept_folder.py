@@ -10,8 +10,9 @@ from ..common.exit_status import Fault
 SCRIPT, BEFORE, AFTER = "script.jsonl", "before", "after"
 STEPS, CHECKED = "steps", "checked"  # that don't stay
 OLD, NEW = "old.jsonl", "new.jsonl"  # by a plan, under old names and under new ones
+RETAINED = "retained.jsonl"  # what moves the retained messages
 NAMES = SCRIPT, BEFORE, AFTER
-ALL_NAMES = *NAMES, OLD, NEW
+ALL_NAMES = *NAMES, OLD, NEW, RETAINED
 
 
 def refuse_to_overwrite(kept: str, names: Iterable[str]) -> None:

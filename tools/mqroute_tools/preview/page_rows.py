@@ -5,6 +5,7 @@ from ..common.files import at
 from ..common.messages import counted, named
 from ..losses.html_escape import escaped, visible
 from ..losses.script_lines import script_lines
+from ..plan.kept import Kept, Move, OldSession
 from ..script.access_list import Line
 from .findings import (
     Carried, Cause, Deciding, Preview, RefusedRow, Remark, Right, Subscription, UserRow)
@@ -106,8 +107,8 @@ class Rows:
                      map(self.subscription, self.found.subscriptions))
 
     def subscription(self, one: Subscription) -> str:
-        user = "none" if one.user is None else f"<bdi>{visible(one.user)}</bdi>"
-        return row((head_cell(f"<bdi>{visible(one.client)}</bdi>"), cell(user, name="user"),
+        return row((head_cell(f"<bdi>{visible(one.client)}</bdi>"),
+                    cell(user_of(one.user), name="user"),
                     cell(renamed(one.was, one.filter)), cell(f"{one.line:,}", "line", "line")))
 
     def carried(self) -> str:
@@ -122,6 +123,16 @@ class Rows:
                     cell(f"<ul class='topics'>{becomes}</ul>" if becomes else ""),
                     cell(escaped(one.words))))
 
+    def retained(self, kept: Kept) -> str:
+        columns = (Column("Line of the script"), Column("Client"), Column("Retained"),
+                   Column("Becomes"), Column("Remark"))
+        return table("retained", escaped(kept.of_retained()), columns, map(move_row, kept.moves))
+
+    def away(self, kept: Kept) -> str:
+        columns = (Column("Client"), Column("User"), Column("Line of the script"),
+                   Column("Messages that wait", True), Column("Subscribed to"))
+        return table("away", escaped(kept.of_sessions()), columns, map(session_row, kept.sessions))
+
     def remarks(self) -> str:
         columns = Column("Line"), Column("Text"), Column("Remark")
         return table("remarks", "What <code>mqroute-acl lint</code> says of the proposed list, and "
@@ -131,6 +142,26 @@ class Rows:
         where = "the list" if one.line is None else escaped(at(self.found.proposed, one.line))
         text = f"<code><bdi>{escaped((one.text or '').strip())}</bdi></code>" if one.text else ""
         return row((head_cell(f"<bdi>{where}</bdi>"), cell(text), cell(escaped(one.words))))
+
+
+def move_row(one: Move) -> str:
+    found = one.message
+    return row((head_cell(f"{found.line:,}"), cell(f"<bdi>{visible(found.client)}</bdi>"),
+                cell(code(found.topic)), cell("none" if one.new is None else code(one.new)),
+                cell(escaped(one.why))))
+
+
+def session_row(one: OldSession) -> str:
+    away = one.away
+    items = "".join(f"<li>{code(was)} → {', '.join(map(code, new)) or 'nothing'}</li>"
+                    for was, new in one.becomes.items())
+    return row((head_cell(f"<bdi>{visible(away.client)}</bdi>"), cell(user_of(away.user)),
+                cell(f"{away.line:,}", "line", "line"), number(one.waiting, "waiting", "waiting"),
+                cell(f"<ul class='topics'>{items}</ul>", "of-topics")))
+
+
+def user_of(user: str | None) -> str:
+    return "none" if user is None else f"<bdi>{visible(user)}</bdi>"
 
 
 def topics_of(right: Right) -> str:

@@ -6,6 +6,8 @@ from typing import Any
 
 from ..common.exit_status import Fault
 from ..plan.check import report_script
+from ..plan.day_end import Answered, day_end
+from ..plan.kept import Kept, kept_of
 from ..plan.report import Report
 from ..plan.script_translation import new_filters, new_topic, read_lines, rewritten
 from ..plan.topic_plan import Plan
@@ -71,6 +73,11 @@ class Renaming:
     def name_new(self, topics: list[Topics]) -> None:
         for one in topics:
             one.new = self.becomes(one.filter)
+
+    def kept(self, answered: Answered) -> Kept:
+        """What the broker has under old names at the end of the script, which `answered` runs under
+        the list in force."""
+        return kept_of(self.translator, day_end(self.made.old, answered), True)
 
     def carried(self) -> Iterator[Carried]:
         """What `mqroute-plan check --script` lists."""

@@ -7,13 +7,14 @@ from ..common.messages import named
 from ..common.tables import shown
 from ..common.terminal import BOLD, DIM, GREEN, RED, YELLOW, Terminal
 from ..common.texts import quoted
+from ..plan.kept import AWAY as STAYS_AWAY, STAYS, Move, OldSession
 from ..script.access_list import Line
 from .findings import (
     Carried, Cause, Deciding, Preview, RefusedRow, Remark, Right, Subscription, UserRow)
 from .gathered_topics import Topics
 from .words import (
-    CARRIED, NO_LINE, NO_RULE, NOT_ASKED, changes, client_of, concerned, may, refusals, scope_of,
-    summary, topic_count, tried, verb, whom)
+    AWAY, CARRIED, NO_LINE, NO_RULE, NOT_ASKED, RETAINED, changes, client_of, concerned, may,
+    refusals, scope_of, summary, topic_count, tried, verb, waits, whom)
 
 ROWS = 20  # of each section
 CAUSES, TOPICS = 6, 4  # of each row
@@ -51,6 +52,7 @@ class Report:
             ("Subscriptions that can receive nothing any more",
              self.first(found.subscriptions, self.subscription)),
             (CARRIED, self.first(found.carried, self.carried)),
+            (RETAINED, self.retained()), (AWAY, self.away()),
             (f"New remarks on {self.proposed}", self.first(found.remarks, self.remark))]
         for title, lines in sections:
             body = list(lines)
@@ -155,7 +157,7 @@ class Report:
         yield from self.deciding(right.deciding, "      ", rules)
 
     def subscription(self, one: Subscription) -> list[str]:
-        user = "no user name" if one.user is None else f"user {shown(one.user)}"
+        user = user_of(one.user)
         script = self.found.script
         place = at(shown(script), one.line) if script else f"line {one.line} of the script"
         wanted = shown(one.filter)
@@ -172,6 +174,41 @@ class Report:
                                         "         ")
             yield from self.dim(one.words, "      ")
 
+    def retained(self) -> Iterator[str]:
+        """What is retained under old names, and how that is moved."""
+        names = self.found.kept
+        if names is None or not names.kept.moves:
+            return
+        yield from self.out.wrapped(names.kept.of_retained(), "  ")
+        yield from self.first(names.kept.moves, self.move)
+        yield from self.out.wrapped(f"{STAYS} {names.hint()}".strip(), "  ")
+        yield from self.dim(names.kept.unknown(), "  ")
+
+    def move(self, one: Move) -> Iterator[str]:
+        place, message = at(shown(named(self.name())), one.message.line), one.message
+        new = "(no new name)" if one.new is None else listed(one.new)
+        yield from self.out.fitted(
+            [place, shown(message.client), f"{listed(message.topic)} -> {new}"], "  ")
+        if one.why:
+            yield from self.dim(one.why, "      ")
+
+    def away(self) -> Iterator[str]:
+        names = self.found.kept
+        if names is None or not names.kept.sessions:
+            return
+        yield from self.out.wrapped(names.kept.of_sessions(), "  ")
+        yield from self.first(names.kept.sessions, self.session)
+        yield from self.out.wrapped(STAYS_AWAY, "  ")
+        yield from self.dim(names.kept.unknown(), "  ")
+
+    def session(self, one: OldSession) -> Iterator[str]:
+        place = at(shown(named(self.name())), one.away.line)
+        client = f"{shown(one.away.client)}  {user_of(one.away.user)}"
+        yield from self.out.fitted([place, client, waits(one.waiting)], "  ")
+        for was, new in one.becomes.items():
+            becomes = ", ".join(map(listed, new)) or "nothing"
+            yield from self.out.wrapped(f"{shown(was)} -> {becomes}", "      ", "         ")
+
     def name(self) -> str:
         """Of the script."""
         found = self.found
@@ -184,6 +221,10 @@ class Report:
         place = at(self.proposed, one.line)
         yield from self.out.fitted([place, shown((one.text or "").strip())], "  ")
         yield from self.dim(one.words, "      ")
+
+
+def user_of(user: str | None) -> str:
+    return "no user name" if user is None else f"user {shown(user)}"
 
 
 def listed(name: str) -> str:

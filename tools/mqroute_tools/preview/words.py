@@ -13,6 +13,8 @@ MOST_ABSENT = 3  # of those whom it isn't of, where it is of nearly everybody
 NO_NAME = "clients without a user name"
 NO_LINE, NO_RULE = "no line allows it", "no line is about it"
 CARRIED = "What the plan can't carry over as it is"
+RETAINED = "Retained under old names when the script ends"
+AWAY = "Away when the script ends, with subscriptions under old names"
 NOT_ASKED = "Users that a line names and whose rights aren't known (their names hold /, + or #)"
 OTHERWISE = "another QoS, RETAIN flag, payload or expiry"
 
@@ -77,6 +79,11 @@ def summary(found: Preview) -> str:
             f"{counted(len(found.granted), 'rights granted', ',')}, {len(found.taken):,} taken "
             f"away; {counted(len(found.subscriptions), 'subscriptions', ',')} can receive nothing "
             f"any more{unknown(found)}")
+
+
+def waits(number: int) -> str:
+    """How much waits for a client that is away."""
+    return f"{counted(number, 'messages', ',')} {'waits' if number == 1 else 'wait'}"
 
 
 def unknown(found: Preview) -> str:
