@@ -1,11 +1,12 @@
 """plan check: what is odd in a plan, and what becomes of a script and of an access list."""
 import argparse
 
-from ..common.messages import counted
 from .day_end import day_end, under
 from .kept import kept_of
 from .kept_report import report_kept
+from .list_differences import ListText
 from .list_translation import notes_on, translated
+from .lists_report import Day, report_lists
 from .remarks import remarks
 from .report import Report, write
 from .script_translation import NewScript, read_lines, rewritten
@@ -22,13 +23,18 @@ def run(options: argparse.Namespace) -> int:
     translator = Translator(plan)
     lines = [] if options.script is None else read_lines(options.script)
     acl = None if options.acl_file is None else read_text(options.acl_file)
+    day = None
     if options.script is not None:
         end = day_end(lines, under(acl, options.acl_file))
         kept = kept_of(translator, end, acl is not None)
         report_kept(report, plan.name, options.script, kept)
-        report_script(report, translator, options.script, rewritten(translator, lines))
+        made = rewritten(translator, lines)
+        report_script(report, translator, options.script, made)
+        day = Day(options.script, list(made.names()))
     if acl is not None:
-        report_list(report, translator, options.acl_file, acl)
+        new = None if options.new_acl_file is None else ListText(
+            options.new_acl_file, read_text(options.new_acl_file))
+        report_lists(report, translator, ListText(options.acl_file, acl), new, day)
     write(report.text(options.json))
     return int(report.odd)
 
@@ -41,17 +47,3 @@ def report_script(report: Report, translator: Translator, script: str, made: New
         name = f"the list of line {number}"
         for note in notes_on(translator.plan, translated(translator, text, name), text, name):
             report.remark(script, number, f"line {note.line} of the list: {note.words}")
-
-
-def report_list(report: Report, translator: Translator, name: str, text: str) -> None:
-    made = translated(translator, text, name)
-    found = notes_on(translator.plan, made, text, name)
-    report.blank()
-    exact = "" if any(note.is_difference for note in found) else (
-        "; it allows the same under the new names")
-    report.lines.append(f"Access list {name}: {made.changed} of {counted(made.rows, 'lines')} "
-                        f"{'changes' if made.changed == 1 else 'change'}{exact}")
-    report.objects.append({"kind": "list", "file": name, "lines": made.rows,
-                           "changed": made.changed, "exact": bool(exact)})
-    for note in found:
-        report.remark(name, note.line, note.words)

@@ -73,3 +73,8 @@ def refuse_marks(keyword: str, topic: str) -> None:
     if keyword == "pattern" and any(
             mark in level and mark != level for mark in MARKS for level in levels(topic)):
         raise LineFault(f"%c and %u must be whole levels: {quoted(topic)}")
+
+
+def opened(wanted: Levels) -> Levels:
+    """With any level where a mark is."""
+    return tuple("+" if level in MARKS else level for level in wanted)

@@ -1,23 +1,16 @@
 """An access list under a plan, and what is to be said of its lines."""
-from collections import defaultdict
 from collections.abc import Iterator
 from dataclasses import dataclass, field
-from typing import NamedTuple
 
-from .asking import GAINED, Difference, differences
 from .filters import Levels, is_wild
-from .list_lines import Line, lines_of_list
+from .list_differences import ListText, Note, judged
+from .list_lines import Line, lines_of_list, opened
 from .plan_lines import MARKS
 from .topic_plan import Plan
 from .translator import Translator
+from .unused import DayNames
 
 CLIENT, USER = MARKS
-
-
-class Note(NamedTuple):
-    line: int
-    words: str
-    is_difference: bool = False  # by mqroute-acl
 
 
 @dataclass
@@ -70,9 +63,8 @@ def notes_on_marks(plan: Plan, row: Line, new: tuple[Levels, ...]) -> Iterator[N
     and no line of a list says that. A line that stays says it of topics that keep their names."""
     if not row.is_pattern or not set(MARKS) & set(row.wanted):
         return
-    opened = tuple("+" if level in MARKS else level for level in row.wanted)
     for rule in plan.rules:
-        met = rule.within(opened)
+        met = rule.within(opened(row.wanted))
         if rule.right is None or rule.within(row.wanted) is not None or met is None:
             continue
         if rule.is_keep and row.wanted in new:
@@ -84,36 +76,10 @@ def notes_on_marks(plan: Plan, row: Line, new: tuple[Levels, ...]) -> Iterator[N
                                f"{' and the '.join(bound)} alone: left out of this rule")
 
 
-# -- what mqroute-acl says of it
-
-def notes_on(plan: Plan, made: NewList, text: str, name: str) -> list[Note]:
-    """All that is to be said, line by line."""
-    return sorted([*made.notes, *judged(plan, made, text, name)], key=lambda note: note.line)
-
-
-def judged(plan: Plan, made: NewList, text: str, name: str) -> list[Note]:
-    """A note for each line by which somebody may more or less than by the old list."""
-    found = differences(plan, text, made.text, (name, f"the new {name}"))
-    texts = {row.number: row.text for row in lines_of_list(text, name)}
-    groups: defaultdict[tuple[int, str, str], list[Difference]] = defaultdict(list)
-    for one in found:
-        line = one.old or 0 if one.change != GAINED else made.olds[(one.new or 1) - 1]
-        groups[line, one.change, one.access].append(one)
-    return [Note(line, f"{texts.get(line, '')}: {difference_words(group)}", True)
-            for (line, _, _), group in sorted(groups.items(), key=lambda item: item[0])]
-
-
-def difference_words(group: list[Difference]) -> str:
-    one, count = group[0], len(group) - 1
-    verb = "may now" if one.change == GAINED else "may no longer"
-    topic = one.topic if one.topic == one.new_topic else f"{one.topic} -> {one.new_topic}"
-    more = f", and {count} more" if count else ""
-    return f"{who(one)} {verb} {one.access} {topic}{more}"
-
-
-def who(one: Difference) -> str:
-    if one.user is None:
-        whom = "a client without a user name"
-    else:
-        whom = "another user" if one.user in one.placeholders else f"user {one.user}"
-    return whom if one.client in one.placeholders else f"{whom}, client id {one.client},"
+def notes_on(plan: Plan, made: NewList, text: str, name: str,
+             names: DayNames | None = None) -> list[Note]:
+    """All that is to be said, line by line; with the names of a day, which differences are about
+    none of them."""
+    old, new = ListText(name, text), ListText(f"the new {name}", made.text)
+    return sorted([*made.notes, *judged(plan, old, new, made.olds, names)],
+                  key=lambda note: note.line)

@@ -57,6 +57,8 @@ def add_check(parser: argparse.ArgumentParser) -> None:
     parser.add_argument("plan", help=PLAN)
     parser.add_argument("--script", help="a script under old names")
     parser.add_argument("--acl-file", metavar="LIST", help="an access list under old names")
+    parser.add_argument("--new-acl-file", metavar="LIST", help="with --acl-file: the list that is "
+                        "proposed in its place, under new names")
     parser.add_argument("--json", action="store_true", help="a JSON object on each line")
 
 
@@ -94,8 +96,11 @@ def look_at_files(options: argparse.Namespace) -> None:
             raise UsageFault("--bridge, --no-bridge and --acl-file need --moved")
         if options.no_bridge and (options.bridge is not None or options.acl_file is not None):
             raise UsageFault("--bridge and --acl-file can't be used with --no-bridge")
+    if named.get("new_acl_file") is not None and options.acl_file is None:
+        raise UsageFault("--new-acl-file needs --acl-file")
     read = [named.get(name) for name in
-            ("plan", "list", "script", "acl_file", "moved", "old_script", "new_script")]
+            ("plan", "list", "script", "acl_file", "new_acl_file", "moved", "old_script",
+             "new_script")]
     refuse_stdin_twice(read)
     keep_apart(read, {"--old": named.get("old")})
 

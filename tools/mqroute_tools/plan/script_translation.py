@@ -48,6 +48,14 @@ class NewScript:
         return b"".join(
             line + b"\n" * max(1, len(new)) for line, new in zip(self.old, self.lines))
 
+    def names(self) -> Iterator[str]:
+        """The topics that are published, or subscribed to without a wildcard."""
+        yield from self.topics
+        for text in self.subscribed:
+            parts = split_share(text)
+            if parts is not None and is_name(parts[1]):
+                yield text_of(parts[1])
+
     def renamed_topics(self, plan: Plan) -> Iterator[tuple[Levels, Levels]]:
         """The topics that have new names, with these."""
         for topic in self.topics:

@@ -5,6 +5,7 @@ from typing import Any
 
 from ..losses.findings import Place, Totals
 from ..plan.kept import Kept
+from ..plan.unused import Proposal
 from ..script.access_list import Line
 from .gathered_topics import Topics
 from .in_force import Check
@@ -122,6 +123,8 @@ class Right:
     known: list[str] = field(default_factory=list)  # users whom the lists name
     others: list[str] | None = None  # and all others that there are; None: there may be any
     scope: Scope | None = None  # none by a plan
+    unused: bool | None = None  # by a plan: no topic of the script has such a name; None: not known
+    proposal: Proposal | None = None  # the line of a plan that says so
 
     def is_new_write(self) -> bool:
         return self.change == GAINED and self.access == "write"
@@ -131,7 +134,8 @@ class Right:
                  "clients": [asdict(client) for client in self.clients]}
         if self.new_topic is None:
             return found | (self.scope.json() if self.scope else {})
-        return found | {"new_topic": self.new_topic, "rule": self.rule and asdict(self.rule)}
+        return found | {"new_topic": self.new_topic, "rule": self.rule and asdict(self.rule),
+                        "unused": self.unused, "none": self.proposal and self.proposal.json()}
 
 
 @dataclass

@@ -37,6 +37,7 @@ from .renaming import Renaming, plan_file
 from .scopes import add_scopes
 from .script_facts import ScriptFacts, facts_of
 from .sources import Script, script_of, sources_of
+from .unused_rights import mark_unused
 from .user_rows import refused_rows, user_rows
 from .why_command import LIMITS, WhyCommand
 
@@ -116,6 +117,8 @@ def gathered(options: argparse.Namespace, folder: Path, steps: Steps) -> Preview
     steps.clear()
     found = put_together(options, lists, script, renaming, answers, differences)
     found.check, found.said, found.kept = check, said_of(options, script), kept
+    if renaming is not None:
+        mark_unused(found, asked, renaming)
     if options.by_conf:
         options.by_conf.leave_out(found)
         options.by_conf.name_users(found)

@@ -12,8 +12,8 @@ from .findings import (
 from .gathered_topics import Topics
 from .page_tables import Column, cell, head_cell, number, row, table
 from .words import (
-    NO_LINE, NO_RULE, OTHERWISE, but_for, client_of, concerned, example_of, may, publishes_of,
-    share, topic_count, topic_of, whom)
+    NO_LINE, NO_RULE, NO_TOPIC, NO_USE, OTHERWISE, but_for, client_of, concerned, example_of, may,
+    publishes_of, share, topic_count, topic_of, whom)
 
 USERS = (Column("User"), Column("Clients", True), Column("Before", True), Column("After", True),
          Column("Lost", True), Column("Gained", True), Column("Topics"))
@@ -97,7 +97,7 @@ class Rows:
         more = f"<div class='placeholders'>{escaped(notes)}</div>" if notes else ""
         return row((head_cell(f"<bdi>{escaped(concerned(one, MOST_ON_PAGE))}</bdi>"),
                     cell(may(one), f"may {warning(one)}"),
-                    cell(topics_of(one) + more, "topic"),
+                    cell(topics_of(one) + more + nobody(one), "topic"),
                     cell(self.deciding(one.deciding, self.rule(one)), "lines")))
 
     def subscriptions(self) -> str:
@@ -174,6 +174,15 @@ def topics_of(right: Right) -> str:
         return words
     number = publishes_of(scope).strip().replace(" ", "\u00a0")  # in one line
     return f"{words}<div class='such-as'>such as {code(scope.topic)} {number}</div>"
+
+
+def nobody(right: Right) -> str:
+    """That no topic of the script has such a name."""
+    if not right.unused:
+        return ""
+    found = right.proposal
+    says = f"; {NO_USE} {escaped(found.in_words())}" if found else ""
+    return f"<div class='unused'>{NO_TOPIC}{says}</div>"
 
 
 def warning(right: Right) -> str:

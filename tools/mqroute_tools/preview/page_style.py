@@ -35,7 +35,7 @@ summary:hover { color: var(--text) }
 margin: .15rem 0 }
 .decides dt { color: var(--dim); overflow-wrap: anywhere } .decides dd { margin: 0 }
 .topics { list-style: none; margin: 0; padding: 0 } .topics li { margin: 0 }
-.topics span, .placeholders, .such-as, .unknown { color: var(--dim); font-size: .9rem }
+.topics span, .placeholders, .such-as, .unused, .unknown { color: var(--dim); font-size: .9rem }
 .command code { display: block; padding: .25rem .5rem; white-space: pre-wrap }
 #summary { margin-top: 2rem; font-weight: 600 }
 @media (max-width: 720px) {

@@ -10,8 +10,7 @@ from pathlib import Path
 from ..plan.filters import HASH, PLUS, Levels, covers, is_wild, levels, meet, text_of
 from ..script.access_list import AccessList, Line, Question
 from ..script.rules import MOSQUITTO
-from ..script.strict_json import has_half
-from ..script.text_faults import name_fault
+from ..script.text_faults import is_topic
 from ..script.topics import TopicTree
 from .acl_answers import Lists, number
 from .findings import LOST, Client, Preview, Right, Scope
@@ -181,12 +180,6 @@ class Scopes:
         lines = number(right.deciding.current), number(right.deciding.proposed)
         return (old.allowed, new.allowed) == (right.change == LOST, right.change != LOST) and (
             number(old.deciding_line()), number(new.deciding_line())) == lines
-
-
-def is_topic(text: str) -> bool:
-    """Whether mqroute-acl takes it as a topic name. A client id may make another of a `%c`, and a
-    script has publishes that are refused for theirs."""
-    return not has_half(text) and not name_fault(text)
 
 
 def asked_for(right: Right, region: Region) -> list[Client]:

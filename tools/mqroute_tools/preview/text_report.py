@@ -6,15 +6,16 @@ from ..common.files import at
 from ..common.messages import named
 from ..common.tables import shown
 from ..common.terminal import BOLD, DIM, GREEN, RED, YELLOW, Terminal
-from ..common.texts import quoted
+from ..common.texts import escaped, quoted
 from ..plan.kept import AWAY as STAYS_AWAY, STAYS, Move, OldSession
 from ..script.access_list import Line
 from .findings import (
     Carried, Cause, Deciding, Preview, RefusedRow, Remark, Right, Subscription, UserRow)
 from .gathered_topics import Topics
 from .words import (
-    AWAY, CARRIED, NO_LINE, NO_RULE, NOT_ASKED, RETAINED, changes, client_of, concerned, may,
-    refusals, scope_of, summary, topic_count, tried, verb, waits, whom)
+    AWAY, CARRIED, NO_LINE, NO_RULE, NO_TOPIC, NO_USE, NOT_ASKED, RETAINED, changes, client_of,
+    concerned, may, refusals, scope_of, summary, topic_count, tried, unused, used, verb, waits,
+    whom)
 
 ROWS = 20  # of each section
 CAUSES, TOPICS = 6, 4  # of each row
@@ -45,9 +46,11 @@ class Report:
             ("Whose publishes are refused, whose no longer",
              self.first(found.refused, self.refused)),
             ("Newly allowed, whether or not anybody tried",
-             self.first(found.granted, self.right)),
+             self.first(used(found.granted), self.right)),
             ("No longer allowed, whether or not anybody tried",
-             self.first(found.taken, self.right)),
+             self.first(used(found.taken), self.right)),
+            (f"Newly allowed, {NO_TOPIC}", self.first(unused(found.granted), self.right)),
+            (f"No longer allowed, {NO_TOPIC}", self.first(unused(found.taken), self.right)),
             (NOT_ASKED, self.first(found.not_asked, self.not_asked)),
             ("Subscriptions that can receive nothing any more",
              self.first(found.subscriptions, self.subscription)),
@@ -155,6 +158,8 @@ class Report:
         plan = self.found.plan
         rules = [side(plan, right.rule, NO_RULE)] if plan else []
         yield from self.deciding(right.deciding, "      ", rules)
+        if right.proposal:
+            yield from self.out.wrapped(f"{NO_USE} {escaped(right.proposal.in_words())}", "      ")
 
     def subscription(self, one: Subscription) -> list[str]:
         user = user_of(one.user)

@@ -15,6 +15,8 @@ NO_LINE, NO_RULE = "no line allows it", "no line is about it"
 CARRIED = "What the plan can't carry over as it is"
 RETAINED = "Retained under old names when the script ends"
 AWAY = "Away when the script ends, with subscriptions under old names"
+NO_TOPIC = "on names that no topic of the script has"
+NO_USE = "if nobody uses them, the plan can say so:"
 NOT_ASKED = "Users that a line names and whose rights aren't known (their names hold /, + or #)"
 OTHERWISE = "another QoS, RETAIN flag, payload or expiry"
 
@@ -188,6 +190,15 @@ def scope_of(right: Right) -> list[str]:
     words = f"{'some of ' if scope.in_part else ''}{shown(scope.filter)}{but_for(scope, shown)}"
     such_as = f"such as {shown(scope.topic)}{publishes_of(scope)}" if scope.topic else ""
     return [words, such_as]
+
+
+def used(rights: list[Right]) -> list[Right]:
+    return [one for one in rights if not one.unused]
+
+
+def unused(rights: list[Right]) -> list[Right]:
+    """Those on names that no topic of the script has."""
+    return [one for one in rights if one.unused]
 
 
 def client_of(right: Right) -> str:

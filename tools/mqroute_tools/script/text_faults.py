@@ -4,6 +4,7 @@ from collections.abc import Iterator
 
 from ..common.texts import json_text
 from .output import Command
+from .strict_json import has_half
 from .topics import plain_filter
 
 MOST_LEVELS, MOST_BYTES = 200, 65_535
@@ -39,6 +40,12 @@ def name_fault(topic: str) -> str:
     """Why this isn't a topic name (4.7.1, 4.7.3); empty where it is one."""
     wildcard = "it has a wildcard" if has_wildcard(topic) else ""
     return text_fault(topic) or wildcard or level_fault(topic)
+
+
+def is_topic(text: str) -> bool:
+    """Whether mqroute-acl takes it as a topic name: a script has publishes that are refused for
+    theirs."""
+    return not has_half(text) and not name_fault(text)
 
 
 def wildcard_fault(wanted: str) -> str:
