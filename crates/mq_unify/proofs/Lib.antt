@@ -1,0 +1,12 @@
+pub mod GeneralLemmas
+pub mod BindingLemmas
+pub mod UnlikeLemmas
+pub mod MostGeneral
+pub mod UnifyLemmas
+pub mod TermLemmas
+pub mod MadeLemmas
+pub mod FilterLemmas
+pub mod RowLemmas
+pub mod TransferLemmas
+pub mod JoinLemmas
+pub mod StandsLemmas
