@@ -2,6 +2,7 @@
 import importlib
 import os
 import re
+import shlex
 import subprocess
 import sys
 import tempfile
@@ -11,6 +12,7 @@ from pathlib import Path
 from worked import HERE, TOP
 from mqroute_tools.cli import SUBCOMMANDS
 from mqroute_tools.common.arguments import Parser
+from mqroute_tools.plan import plan
 
 ALL = [sys.executable, "-m", "mqroute_tools"]
 
@@ -82,6 +84,19 @@ class Names(unittest.TestCase):
         self.assertEqual(said([*ALL, "--help"]).stdout.splitlines()[-2:], [
             "example: mqroute-tools check day.jsonl",
             "status: as the subcommand; 2 if there is none of this name"])
+
+    def test_end_of_the_help_of_a_plan(self):
+        """Each of its commands has an example, which it takes."""
+        parser = Parser()
+        plan.add_arguments(parser)
+        self.assertEqual([*plan.EXAMPLES], [*plan.RUN])
+        for name, given in plan.EXAMPLES.items():
+            with self.subTest(name):
+                *_, example, statuses = said([*ALL, "plan", name, "--help"]).stdout.splitlines()
+                self.assertEqual(example, f"example: mqroute-plan {name} {given}")
+                self.assertEqual(statuses, "status: as `mqroute-plan --help` has it")
+                words = shlex.split(given.partition(" > ")[0])
+                self.assertEqual(parser.parse_args([name, *words]).plan, "plan")
 
     def test_no_such_subcommand(self):
         for words, shown in ((["fly"], "invalid choice: 'fly'"), ([], "required: SUBCOMMAND\n"),

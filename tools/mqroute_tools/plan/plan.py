@@ -6,12 +6,20 @@ another file.
 """
 import argparse
 
+from ..common.arguments import Parser
 from ..common.exit_status import UsageFault
 from ..common.files import keep_apart, refuse_stdin_twice
 from . import acl, check, compare, name, retained, script
 
 RUN = {"check": check.run, "name": name.run, "acl": acl.run, "script": script.run,
        "retained": retained.run, "compare": compare.run}
+EXAMPLES = {
+    "check": "--script day.jsonl --acl-file current.acl plan",
+    "name": "plan plant/hall-1/energy 'plant/+/energy'",
+    "acl": "plan current.acl > new.acl",
+    "script": "plan day.jsonl > new.jsonl",
+    "retained": "plan day.jsonl > moving.jsonl",
+    "compare": "plan day.jsonl tuesday.jsonl"}
 PLAN = "the plan: lines FROM -> TO, keep FROM and none FROM"
 DESCRIPTION = """Shows what becomes of lists, scripts and subscriptions if topics are renamed by a
 plan. A plan has a rule on each line, and the first whose FROM matches a topic decides about it.
@@ -20,7 +28,7 @@ keep FROM: they keep their names. none FROM: they have no new name, since nobody
 that no FROM matches keeps its name, unless some TO matches it."""
 
 
-def add_arguments(parser: argparse.ArgumentParser) -> None:
+def add_arguments(parser: Parser) -> None:
     parser.description = DESCRIPTION
     found = parser.add_subparsers(required=True, dest="command", metavar="COMMAND")
     add_check(found.add_parser("check", help="shows what is odd in a plan, and what becomes of a "
@@ -33,6 +41,9 @@ def add_arguments(parser: argparse.ArgumentParser) -> None:
                                   "under old names to the new ones"))
     add_compare(found.add_parser("compare", help="shows which clients of a script under new names "
                                  "don't subscribe to what they did in one under old names"))
+    for word, command in found.choices.items():
+        command.closing = (f"\nexample: mqroute-plan {word} {EXAMPLES[word]}\n"
+                           "status: as `mqroute-plan --help` has it\n")
 
 
 def add_name(parser: argparse.ArgumentParser) -> None:
