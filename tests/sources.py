@@ -47,7 +47,7 @@ MADE_OF = {
     "Row": "line: u64, owner: Owner, access: Access, filter: TopicFilter",
     "Session":
     "user: Option<String>, interval: u32, presence: Presence, waiting: LinkedList<Waiting>",
-    "LevelTree": "alloc: Global, root: Node<V>",
+    "LevelTree": "alloc: Global, root: Node<V>, nodes: u64",
     "FilterEntry":
     "filter: Rc<TopicFilter>, unshared: BTreeMap<RcStr, SubscriptionOptions>, groups: ShareGroups",
     "ShareGroups": "by_share: BTreeMap<RcStr, Group>",

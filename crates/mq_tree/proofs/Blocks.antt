@@ -32,7 +32,8 @@ filter_same : (l : List ℕ) (last : List (List ℕ)) (ps : List (List (List ℕ
 filter_same l last [] = refl
 filter_same l last (p ∷ ps) = grind (arith, text_itself l, filter_same l last ps)
 
-heads_none : (k : List (List ℕ)) → filter (λ p. not (is_prefix p [])) (heads k) ≡ heads k
+-- no prefix is left out after the empty key
+pub heads_none : (k : List (List ℕ)) → filter (λ p. not (is_prefix p [])) (heads k) ≡ heads k
 heads_none [] = refl
 heads_none (l ∷ k) = ap (λ qs. (l ∷ []) ∷ qs) (filter_all l [] (heads k) tt)
 

@@ -74,7 +74,7 @@ module _ {Y V : Type 0} {key : List (List ℕ)} {l : List ℕ} {rest : List (Lis
   take_kept node new fin f n e = rw at.key_is (kept (remove_edits l rest) node new fin f n e)
 
   -- the children once the one at the level has got a new node and is taken out
-  cut_is : (new : Box (NodeView V)) (fin : Branches Y V)
+  pub cut_is : (new : Box (NodeView V)) (fin : Branches Y V)
       → fin ≡ remove_entry (is_text l) (set_value (is_text l) nodes new)
       → children_of fin
       ≡ remove_entry (is_level l) (set_value (is_level l) (children_of nodes) (entries_in new))

@@ -10,6 +10,7 @@ mod Levels
 mod Levelwise
 mod Maps
 mod Names
+mod NodeCounts
 mod Roots
 mod Texts
 mod Turns

@@ -39,24 +39,31 @@ const FOUND: usize = 16;
 pub struct LevelTree<V> {
     alloc: Global,
     root: Node<V>,
+    // How many nodes are below the root. Once it comes to `u64::MAX` it stays there, and says nothing.
+    nodes: u64,
 }
 
 // Opaque to callers' proofs: one step, and not one for each field (docs/explanation/gate.md).
 impl<V: Drop> Drop for LevelTree<V> {
     fn drop(self) {
-        let LevelTree { alloc: _, root: _ } = self;
+        let LevelTree {
+            alloc: _,
+            root: _,
+            nodes: _,
+        } = self;
     }
 }
 
 impl<V> Model for LevelTree<V> {
-    ghost use Rattle.mq_tree.specs.Entries.{Entries, AreInOrder};
+    ghost use Rattle.mq_tree.specs.Entries.{Entries};
     ghost use Rattle.mq_tree.specs.Nodes.{entries_of};
+    ghost use Rattle.mq_tree.specs.NodeCounts.{IsCounted};
 
     ghost Value = { Entries V };
 
     ghost view = { λ a. entries_of a.root };
 
-    ghost invariant = { λ a. AreInOrder (entries_of a.root) };
+    ghost invariant = { λ a. IsCounted (entries_of a.root) a.nodes };
 }
 
 impl<V> LevelTree<V> {
@@ -67,6 +74,7 @@ impl<V> LevelTree<V> {
         LevelTree {
             alloc,
             root: Node::new(alloc),
+            nodes: 0,
         }
     }
 
@@ -84,7 +92,11 @@ impl<V> LevelTree<V> {
         ensures value { option_copied_mut result
             ≡ lookup (is_key (levels (K.text_of key.now))) self.old }
     {
-        self.root.get_mut(Some(key.text()))
+        // In two arms, so that the proof sees that the key of a lent value was there: all nodes stay.
+        match self.root.get_mut(Some(key.text())) {
+            Some(lent) => Some(lent),
+            None => None,
+        }
     }
 
     /// Puts the value at the key, and gives the older one. What is missing of the key's branch is built aside,
@@ -100,7 +112,12 @@ impl<V> LevelTree<V> {
         ensures absent { OnErr result
             (lookup (is_key (levels (K.text_of key.now))) self.old ≡ None) }
     {
-        self.root.put(self.alloc, Some(key.text()), value)
+        let mut built = 0;
+        let older = self
+            .root
+            .put(self.alloc, Some(key.text()), value, &mut built)?;
+        self.nodes = self.nodes.saturating_add(built);
+        Ok(older)
     }
 
     /// Takes out the value at the key, and each node that no key leads to any more.
@@ -110,7 +127,12 @@ impl<V> LevelTree<V> {
         ensures value { result ≡ lookup (is_key (levels (K.text_of key.now))) self.old }
         ensures rest { self.new ≡ remove_entry (is_key (levels (K.text_of key.now))) self.old }
     {
-        self.root.take(Some(key.text()))
+        let mut gone = 0;
+        let taken = self.root.take(Some(key.text()), &mut gone);
+        if self.nodes < u64::MAX {
+            self.nodes = self.nodes.saturating_sub(gone);
+        }
+        taken
     }
 
     /// How many keys there are, at most `u64::MAX`.
@@ -121,11 +143,15 @@ impl<V> LevelTree<V> {
         self.root.len()
     }
 
-    /// How many nodes are kept, one for each nonempty prefix of a key, at most `u64::MAX`. It counts them one by
-    /// one, in the very maps that hold them, and takes no memory.
+    /// How many nodes there are, one for each nonempty prefix of a key, at most `u64::MAX`. The number is kept
+    /// while keys are put and taken, so this takes constant time; a tree that once had `u64::MAX` nodes or more
+    /// counts them one by one.
     pub fn nodes(&self) -> u64
         ensures { result ≡ capped (length (prefixes (keys_of self.now))) }
     {
+        if self.nodes < u64::MAX {
+            return self.nodes;
+        }
         self.root.nodes()
     }
 

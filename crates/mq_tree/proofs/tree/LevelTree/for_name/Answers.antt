@@ -30,8 +30,8 @@ returns-clause-count g c =
 
 pub returns-clause-ordered : goal.returns-clause-ordered
 returns-clause-ordered g c =
-    subst (λ (es : Entries g.row.V.Denot). AreInOrder es) c.self.view_is c.self.invariant
+    subst (λ (es : Entries g.row.V.Denot). AreInOrder es) c.self.view_is c.self.invariant.ordered
 
 pub returns-in_err-by_name-clause-ordered : goal.returns-in_err-by_name-clause-ordered
 returns-in_err-by_name-clause-ordered g c =
-    subst (λ (es : Entries g.row.V.Denot). AreInOrder es) c.self.view_is c.self.invariant
+    subst (λ (es : Entries g.row.V.Denot). AreInOrder es) c.self.view_is c.self.invariant.ordered

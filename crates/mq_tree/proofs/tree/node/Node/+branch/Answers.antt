@@ -11,5 +11,5 @@ pub invariant_of-result-2 : goal.invariant_of-result-2
 invariant_of-result-2 g t c = record {
   ordered = ordered_levels c.hang.new.children.entries c.in_ok-hang.ensures.ordered;
   live = rw (c.in_ok-hang.ensures.ok, c.new-children.ensures.empty)
-      (rw c.in_ok-child.ensures (λ e. absurd (cc)), tt);
+      (rw c.in_ok-child.ensures.node (λ e. absurd (cc)), tt);
 }

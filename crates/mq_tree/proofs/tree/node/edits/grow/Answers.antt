@@ -11,7 +11,7 @@ returns-clause-ok g c =
     c.in_ok-hang.ensures.ok
     ∙ ap (λ l. insert_entry (slice_cmp nat_cmp) old l (entries_of c.in_ok-branch.branch))
     c.in_ok-level.ensures.ok ∙ ap (insert_entry (slice_cmp nat_cmp) old c.args.level.now)
-    c.in_ok-branch.ensures
+    c.in_ok-branch.ensures.node
 
 pub returns-in_err-branch-clause-err : goal.returns-in_err-branch-clause-err
 returns-in_err-branch-clause-err g c = on_err c.from_residual-in_err-branch.result refl
