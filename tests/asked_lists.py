@@ -3,7 +3,7 @@ topic of few levels (plain_lists.py)."""
 import itertools
 import json
 
-from plain_lists import Row, accesses, allowed, deciding
+from plain_lists import Row, accesses, allowed, deciding, limits_of
 
 
 def number_of(row):
@@ -52,9 +52,10 @@ def faults_of_who(rules, run, folder, wanted, rows, asked_about, left_out):
     shown = [json.loads(line) for line in done.stdout.splitlines()]
     refused = [{"refused": access} for access in ("read", "write")
                if rules.refuses(wanted, access)]
-    if done.returncode != 0 or [each for each in shown if "refused" in each] != refused:
+    last = refused + limits_of(rules, True)
+    if done.returncode != 0 or done.stderr or shown[len(shown) - len(last):] != last:
         yield f"who {wanted}: status {done.returncode}: {done.stderr}{shown}"
-    shown = [each for each in shown if "refused" not in each]
+    shown = shown[:len(shown) - len(last)]
     asked = Row(0, True, None, "readwrite", wanted)
     for each in shown:
         yield from faults_of_permission(rules, rows, asked, each)
@@ -64,7 +65,7 @@ def faults_of_who(rules, run, folder, wanted, rows, asked_about, left_out):
     others = [each for each in shown if whom(rows, each["user"]) not in left]
     done = run([*words, f"--only={only}", "--", wanted], folder)
     if ([json.loads(line) for line in done.stdout.splitlines()], done.returncode) != (
-            others + refused, 1 if others else 0):
+            others + last, 1 if others else 0):
         yield f"who {wanted} --only {only}: status {done.returncode}: {done.stdout}"
 
 

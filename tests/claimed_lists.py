@@ -6,7 +6,7 @@ from typing import NamedTuple
 from xml.etree import ElementTree
 
 from asked_lists import number_of
-from plain_lists import Row, allowed, deciding
+from plain_lists import Row, allowed, deciding, limits_of
 
 HOLDS = {"": "every", "some ": "some", "not ": "none"}
 ACCESSES = {"read": ["read"], "write": ["write"], "readwrite": ["read", "write"]}
@@ -102,15 +102,20 @@ def faults_of_claims(rules, run, folder, chance, random_filter, rows, asked_abou
     pathlib.Path(folder, "old.expected").write_text(lines)
     done = run(["test", *rules.words, "--json", "--junit", "old.xml", "old.expected", "old.acl"],
                folder)
-    *shown, counts = [json.loads(line) for line in done.stdout.splitlines()] or [None]
+    shown = [json.loads(line) for line in done.stdout.splitlines()]
+    counts, limits = shown[len(claims):len(claims) + 1], shown[len(claims) + 1:]
+    shown = shown[:len(claims)]
     hold = sum(each["holds"] for each in shown)
-    if (len(shown) != len(claims) or counts != {"expectations": len(claims), "hold": hold}
-            or done.returncode != (0 if hold == len(claims) else 1)):
+    if (counts != [{"expectations": len(claims), "hold": hold}] or done.stderr
+            or limits != limits_of(rules, True) or done.returncode != (0 if hold == len(claims) else 1)):
         yield f"test: status {done.returncode}: {done.stdout}{done.stderr}{lines}"
         return
     for claim, each in zip(claims, shown):
         yield from faults_of_verdict(rules, rows, claim, each, asked_about)
     suite = ElementTree.parse(pathlib.Path(folder, "old.xml")).find("testsuite")
+    named = [{one.get("name"): one.get("value")} for one in suite.iter("property")]
+    if named != limits:
+        yield f"test --junit: {named}, not {limits}"
     failing = [case.get("name") for case in suite if case.find("failure") is not None]
     if failing != [each["text"] for each in shown if not each["holds"]]:
         yield f"test --junit: {failing} of {lines}"
@@ -124,8 +129,9 @@ def faults_of_any(rules, run, folder, user, wanted, rows, asked_about):
         if (done.returncode, done.stdout) != (2, ""):
             yield f"reach --any {wanted}: user {user}: status {done.returncode}: {done.stdout}"
         return
-    shown = json.loads(done.stdout)
-    if done.returncode != (1 if shown["topic"] is None else 0) or shown["user"] != user:
+    shown, *limits = [json.loads(line) for line in done.stdout.splitlines()]
+    if (done.returncode != (1 if shown["topic"] is None else 0) or shown["user"] != user
+            or limits != limits_of(rules, True)):
         yield f"reach --any {wanted}: status {done.returncode}: {shown}"
     claim = Claim(user or "anonymous", "not ", "read", wanted, ())
     if shown["topic"] is not None:

@@ -98,6 +98,16 @@ class MosquittoRules:
         return filter_matches(filled if user is None else filled.replace("%u", user), topic)
 
 
+def limits_of(rules, is_limited):
+    """What an answer as JSON ends with, where some client ids and user names are left out."""
+    limit = {"limited_to": "client ids and user names without /, + and #"}
+    return [limit] if rules is MosquittoRules and is_limited else []
+
+
+def has_patterns(rows):
+    return any(row.is_pattern for row in rows)
+
+
 def deciding(rules, rows, client, user, topic, access):
     """The row that decides, if one does, and the first that grants. No row decides what the broker
     refuses by itself."""

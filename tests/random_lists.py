@@ -12,7 +12,8 @@ from changed_plans import faults_of_plan
 from claimed_lists import faults_of_any, faults_of_claims
 from counted_publishes import faults_of_counts
 from plain_lists import (
-    MosquittoRules, OwnRules, accesses, allowed, deciding, filter_matches, rows_of)
+    MosquittoRules, OwnRules, accesses, allowed, deciding, filter_matches, has_patterns, limits_of,
+    rows_of)
 
 PROGRAM = pathlib.Path(__file__).resolve().parent.parent / "bin/mqroute-acl"
 
@@ -110,6 +111,10 @@ def faults_of_compare(rules, folder, old, new):
     done = run(["compare", *rules.words, "--json", "old.acl", "new.acl"], folder)
     shown = [json.loads(line) for line in done.stdout.splitlines()]
     old_rows, new_rows = rows_of(old), rows_of(new)
+    limits = limits_of(rules, has_patterns(old_rows + new_rows))
+    if shown[len(shown) - len(limits):] != limits:
+        yield f"{shown} doesn't say for whom"
+    shown = shown[:len(shown) - len(limits)]
     for difference in shown:
         for fault in faults_of_shown(rules, difference, old_rows, new_rows):
             yield f"{difference} {fault}"
@@ -120,7 +125,7 @@ def faults_of_compare(rules, folder, old, new):
         done = run(["compare", *rules.words, "--json", "--only", way, "old.acl", "new.acl"], folder)
         wanted = [each for each in shown if each["change"] == way]
         if ([json.loads(line) for line in done.stdout.splitlines()], done.returncode) != (
-                wanted, 1 if wanted else 0):
+                wanted + limits, 1 if wanted else 0):
             yield f"--only {way}: status {done.returncode}: {done.stdout}"
     named = {row.user for row in old_rows + new_rows} - {None}
     by_lines = "%" not in old + new
@@ -328,13 +333,17 @@ def faults_of_needless(rules, folder, lines):
     as denying nothing, no line grants. Without a line that is listed as needless, and those that
     repeat it, a list allows the same; and so it does without all of these."""
     done = run(["lint", *rules.words, "--json", "old.acl"], folder)
+    rows = rows_of("\n".join(lines))
     shown = [json.loads(line) for line in done.stdout.splitlines()]
+    limits = [{"file": "old.acl", **limit} for limit in limits_of(rules, has_patterns(rows))]
+    if shown[len(shown) - len(limits):] != limits:
+        yield f"lint: {shown} doesn't say for whom"
+    shown = shown[:len(shown) - len(limits)]
     counted = [each for each in shown if each["kind"] != "denies nothing"]
     kinds = ("needless", "repeats", "no mark", "empty")
     if (done.returncode != (1 if counted else 0)
             or any(each["kind"] not in kinds for each in counted)):
         yield f"lint: status {done.returncode}: {done.stdout}{done.stderr}"
-    rows = rows_of("\n".join(lines))
     yield from faults_of_noted(rules, done.stderr, {"old.acl": rows})
     if bool([each for each in shown if each["kind"] == "empty"]) != (not rows):
         yield f"lint: {lines} allow something, or nothing"

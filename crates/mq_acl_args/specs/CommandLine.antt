@@ -95,33 +95,33 @@ compare =
     (required_argument (codes "OLD") ∷ json_flag ∷ required_argument (codes "NEW")
     ∷ plan_option ∷ only_option ∷ script_option ∷ steps_option ∷ rules_option ∷ [])
 
--- `why FILE [CLIENT] [TOPIC] [--user NAME] [--may ACCESS] [--questions QUESTIONS] [--rules RULES] [--json]`
+-- `why LIST [CLIENT] [TOPIC] [--user NAME] [--may ACCESS] [--questions QUESTIONS] [--rules RULES] [--json]`
 abbrev pub why : App
 why =
     with_rules (new_app (codes "why"))
-    (required_argument (codes "FILE") ∷ json_flag ∷ optional_argument (codes "CLIENT")
+    (required_argument (codes "LIST") ∷ json_flag ∷ optional_argument (codes "CLIENT")
     ∷ optional_argument (codes "TOPIC") ∷ user_option ∷ may_option ∷ questions_option
     ∷ rules_option ∷ [])
 
--- `lint FILE.. [--steps N] [--rules RULES] [--json]`
+-- `lint LIST.. [--steps N] [--rules RULES] [--json]`
 abbrev pub lint : App
 lint =
     with_rules (new_app (codes "lint"))
-    (several_arguments (codes "FILE") ∷ json_flag ∷ steps_option ∷ rules_option ∷ [])
+    (several_arguments (codes "LIST") ∷ json_flag ∷ steps_option ∷ rules_option ∷ [])
 
--- `reach FILE [CLIENT] [FILTER] [--any FILTER] [--user NAME] [--script SCRIPT] [--steps N] [--rules RULES] [--json]`
+-- `reach LIST [CLIENT] [FILTER] [--any FILTER] [--user NAME] [--script SCRIPT] [--steps N] [--rules RULES] [--json]`
 abbrev pub reach : App
 reach =
     with_rules (new_app (codes "reach"))
-    (required_argument (codes "FILE") ∷ json_flag ∷ optional_argument (codes "CLIENT")
+    (required_argument (codes "LIST") ∷ json_flag ∷ optional_argument (codes "CLIENT")
     ∷ optional_argument (codes "FILTER") ∷ any_option ∷ user_option ∷ script_option
     ∷ steps_option ∷ rules_option ∷ [])
 
--- `who FILE FILTER [--access ACCESS] [--only USERS] [--script SCRIPT] [--steps N] [--rules RULES] [--json]`
+-- `who LIST FILTER [--access ACCESS] [--only USERS] [--script SCRIPT] [--steps N] [--rules RULES] [--json]`
 abbrev pub who : App
 who =
     with_rules (new_app (codes "who"))
-    (required_argument (codes "FILE") ∷ json_flag ∷ required_argument (codes "FILTER")
+    (required_argument (codes "LIST") ∷ json_flag ∷ required_argument (codes "FILTER")
     ∷ access_option ∷ only_option ∷ script_option ∷ steps_option ∷ rules_option ∷ [])
 
 -- `test EXPECTED [LIST..] [--junit JUNIT] [--steps N] [--rules RULES] [--json]`
@@ -239,11 +239,11 @@ reach_asked file id filter user script (Some wanted) = any_asked file id filter 
 
 abbrev pub why_asked : List Row → (questions : Option Text) → Option Asked
 why_asked rows None =
-    topic_asked (first_of (codes "FILE") rows) (first_of (codes "CLIENT") rows)
+    topic_asked (first_of (codes "LIST") rows) (first_of (codes "CLIENT") rows)
     (first_of (codes "user") rows) (first_of (codes "TOPIC") rows)
     (access_asked (codes "may") rows)
 why_asked rows (Some questions) =
-    each_asked (first_of (codes "FILE") rows) (first_of (codes "CLIENT") rows)
+    each_asked (first_of (codes "LIST") rows) (first_of (codes "CLIENT") rows)
     (first_of (codes "user") rows) (first_of (codes "TOPIC") rows) (first_of (codes "may") rows)
     questions
 
@@ -252,7 +252,7 @@ why_asked_by rows = why_asked rows (first_of (codes "questions") rows)
 
 abbrev pub reach_asked_by : List Row → Option Asked
 reach_asked_by rows =
-    reach_asked (first_of (codes "FILE") rows) (first_of (codes "CLIENT") rows)
+    reach_asked (first_of (codes "LIST") rows) (first_of (codes "CLIENT") rows)
     (first_of (codes "FILTER") rows) (first_of (codes "user") rows) (first_of (codes "script") rows)
     (first_of (codes "any") rows)
 
@@ -264,7 +264,7 @@ who_asked file wanted access only script = None
 
 abbrev pub who_asked_by : List Row → Option Asked
 who_asked_by rows =
-    who_asked (first_of (codes "FILE") rows) (first_of (codes "FILTER") rows)
+    who_asked (first_of (codes "LIST") rows) (first_of (codes "FILTER") rows)
     (access_asked (codes "access") rows) (first_of (codes "only") rows)
     (first_of (codes "script") rows)
 
@@ -284,7 +284,7 @@ asked name rows =
     if bytes_eq name (codes "compare")
     then compare_asked_by rows
     else (if bytes_eq name (codes "why") then why_asked_by rows
-    else (if bytes_eq name (codes "lint") then lint_asked (all_of (codes "FILE") rows)
+    else (if bytes_eq name (codes "lint") then lint_asked (all_of (codes "LIST") rows)
     else (if bytes_eq name (codes "reach") then reach_asked_by rows
     else (if bytes_eq name (codes "who") then who_asked_by rows
     else (if bytes_eq name (codes "test") then test_asked_by rows

@@ -87,13 +87,13 @@ const COMPARE: Subcommand<'static> = Subcommand {
     ],
 };
 
-// `why FILE [CLIENT] [TOPIC] [--user NAME] [--may ACCESS] [--questions QUESTIONS] [--rules RULES] [--json]`
+// `why LIST [CLIENT] [TOPIC] [--user NAME] [--may ACCESS] [--questions QUESTIONS] [--rules RULES] [--json]`
 const WHY: Subcommand<'static> = Subcommand {
     name: "why",
     about: WHY_ABOUT,
     after_help: WHY_AFTER_HELP,
     arguments: &[
-        Argument("FILE", ArgumentKind::Required, FILE_HELP),
+        Argument("LIST", ArgumentKind::Required, FILE_HELP),
         Argument("json", ArgumentKind::Flag, JSON_HELP),
         Argument("CLIENT", ArgumentKind::Optional("CLIENT"), CLIENT_HELP),
         Argument("TOPIC", ArgumentKind::Optional("TOPIC"), TOPIC_HELP),
@@ -108,26 +108,26 @@ const WHY: Subcommand<'static> = Subcommand {
     ],
 };
 
-// `lint FILE.. [--steps N] [--rules RULES] [--json]`
+// `lint LIST.. [--steps N] [--rules RULES] [--json]`
 const LINT: Subcommand<'static> = Subcommand {
     name: "lint",
     about: LINT_ABOUT,
     after_help: LINT_AFTER_HELP,
     arguments: &[
-        Argument("FILE", ArgumentKind::Several, FILES_HELP),
+        Argument("LIST", ArgumentKind::Several, FILES_HELP),
         Argument("json", ArgumentKind::Flag, JSON_HELP),
         Argument("steps", ArgumentKind::Number, STEPS_HELP),
         Argument("rules", ArgumentKind::Option("RULES"), RULES_HELP),
     ],
 };
 
-// `reach FILE [CLIENT] [FILTER] [--any FILTER] [--user NAME] [--script SCRIPT] [--steps N] [--rules RULES] [--json]`
+// `reach LIST [CLIENT] [FILTER] [--any FILTER] [--user NAME] [--script SCRIPT] [--steps N] [--rules RULES] [--json]`
 const REACH: Subcommand<'static> = Subcommand {
     name: "reach",
     about: REACH_ABOUT,
     after_help: REACH_AFTER_HELP,
     arguments: &[
-        Argument("FILE", ArgumentKind::Required, FILE_HELP),
+        Argument("LIST", ArgumentKind::Required, FILE_HELP),
         Argument("json", ArgumentKind::Flag, JSON_HELP),
         Argument("CLIENT", ArgumentKind::Optional("CLIENT"), SUBSCRIBER_HELP),
         Argument("FILTER", ArgumentKind::Optional("FILTER"), FILTER_HELP),
@@ -139,13 +139,13 @@ const REACH: Subcommand<'static> = Subcommand {
     ],
 };
 
-// `who FILE FILTER [--access ACCESS] [--only USERS] [--script SCRIPT] [--steps N] [--rules RULES] [--json]`
+// `who LIST FILTER [--access ACCESS] [--only USERS] [--script SCRIPT] [--steps N] [--rules RULES] [--json]`
 const WHO: Subcommand<'static> = Subcommand {
     name: "who",
     about: WHO_ABOUT,
     after_help: WHO_AFTER_HELP,
     arguments: &[
-        Argument("FILE", ArgumentKind::Required, FILE_HELP),
+        Argument("LIST", ArgumentKind::Required, FILE_HELP),
         Argument("json", ArgumentKind::Flag, JSON_HELP),
         Argument("FILTER", ArgumentKind::Required, WANTED_HELP),
         Argument("access", ArgumentKind::Option("ACCESS"), ACCESS_HELP),

@@ -8,9 +8,9 @@ An access list is a file in the form of mosquitto.conf(5)'s acl_file. An answer
 is by the rules of mosquitto 2.0, for every client id that a broker can have,
 every user name that it can have or none, and every topic. But compare and lint
 leave out ids and user names with /, + or # if a list has pattern lines; who,
-test and reach --any always leave them out. A note on standard error says so,
-and a user whom a line names is shown as not asked. With --rules own the answer
-is by rules of our own, and leaves out none. A file - is standard input.
+test and reach --any always leave them out. The answer says so at its end, and a
+user whom a line names is shown as not asked. With --rules own the answer is by
+rules of our own, and leaves out none. A file - is standard input.
 
 Exit status:
   0  compare: both lists allow the same, or differ only in the other way than
@@ -102,6 +102,8 @@ With --json each difference is an object with
             no line allows it
 and behind them one for each user whom a line names and nothing is asked about
   not_asked  the user name
+and last, where some client ids and user names are left out, one with
+  limited_to  for which of them the answer is
 With --json and --script it has too
   publishes  how many publishes of the script it is about at most
   topics     how many topics these are to
@@ -153,7 +155,11 @@ With --json each remark is an object with
                     the list (line and text are null)
   other             the number of the line that it repeats, or that makes it
                     needless; or null
-  words             the remark in words";
+  words             the remark in words
+and behind those on a file, where some client ids and user names are left out, one
+with
+  file              the file
+  limited_to        for which of them the remarks hold";
 
 pub(crate) const SUBSCRIBER_HELP: &str = "The client id of the subscriber";
 
@@ -190,6 +196,8 @@ With --json and --any it has too
   line          the line that allows it, with file, line and text, or null
   placeholders  which of client and the levels of the topic stand for others
   user          the user name, or null
+and last, where some client ids and user names are left out, one with
+  limited_to  for which of them the answer is
 With --json and --script each subscription that can receive nothing is an object
 with
   file, line  the script, and the line of its subscribe
@@ -251,6 +259,8 @@ mosquitto refuses whatever the list says
   refused    read or write
 and one for each user whom a line names and nothing is asked about
   not_asked  the user name
+and last, where some client ids and user names are left out, one with
+  limited_to  for which of them the answer is
 With --json and --script each has too
   publishes  how many publishes of the script it is about at most
   topics     how many topics these are to";
@@ -302,6 +312,8 @@ With --json each line of EXPECTED that says something is an object with
   not_asked         the user about whom nothing is asked, or null
   decided, other    the line that decides there in the list, and in the one
                     that it is compared with, with file, line and text; or null
-and the last object has
+and behind them an object has
   expectations      how many such lines there are
-  hold              how many of them hold";
+  hold              how many of them hold
+and last, where some client ids and user names are left out, one with
+  limited_to  for which of them the answer is";

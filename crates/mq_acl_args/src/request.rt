@@ -128,13 +128,13 @@ fn access_in(matches: &ArgMatches<'_>, id: &str) -> Option<Option<Direction>>
 // Of one client and topic.
 fn why_one_in<'a>(matches: &ArgMatches<'a>) -> Option<Question<'a>>
     ensures { let rows = rows_of (found_of matches.now) in option_map question_view result
-        ≡ topic_asked (first_of (codes "FILE") rows) (first_of (codes "CLIENT") rows)
+        ≡ topic_asked (first_of (codes "LIST") rows) (first_of (codes "CLIENT") rows)
         (first_of (codes "user") rows) (first_of (codes "TOPIC") rows)
         (access_asked (codes "may") rows) }
 {
     let user = value(matches, "user");
     match (
-        value(matches, "FILE"),
+        value(matches, "LIST"),
         value(matches, "CLIENT"),
         value(matches, "TOPIC"),
         access_in(matches, "may"),
@@ -152,12 +152,12 @@ fn why_one_in<'a>(matches: &ArgMatches<'a>) -> Option<Question<'a>>
 // Of each question of a file: no client, topic, user name and access stand beside it.
 fn why_each_in<'a>(matches: &ArgMatches<'a>, questions: &'a str) -> Option<Question<'a>>
     ensures { let rows = rows_of (found_of matches.now) in option_map question_view result
-        ≡ each_asked (first_of (codes "FILE") rows) (first_of (codes "CLIENT") rows)
+        ≡ each_asked (first_of (codes "LIST") rows) (first_of (codes "CLIENT") rows)
         (first_of (codes "user") rows) (first_of (codes "TOPIC") rows)
         (first_of (codes "may") rows) questions.entry.now }
 {
     match (
-        value(matches, "FILE"),
+        value(matches, "LIST"),
         value(matches, "CLIENT"),
         value(matches, "user"),
         value(matches, "TOPIC"),
@@ -181,9 +181,9 @@ fn why_in<'a>(matches: &ArgMatches<'a>) -> Option<Question<'a>>
 
 fn lint_in<'a>(alloc: Global, matches: &ArgMatches<'a>) -> Result<Option<Question<'a>>, AllocError>
     ensures { IfOk result (λ question. option_map question_view question
-        ≡ lint_asked (all_of (codes "FILE") (rows_of (found_of matches.now)))) }
+        ≡ lint_asked (all_of (codes "LIST") (rows_of (found_of matches.now)))) }
 {
-    match matches.get_strs("FILE") {
+    match matches.get_strs("LIST") {
         Some(files) => {
             let files = Vec::from_slice(alloc, files)?;
             Ok(Some(Question::Lint(files)))
@@ -195,11 +195,11 @@ fn lint_in<'a>(alloc: Global, matches: &ArgMatches<'a>) -> Result<Option<Questio
 // Of one subscription.
 fn reach_one_in<'a>(matches: &ArgMatches<'a>, user: Option<&'a str>) -> Option<Question<'a>>
     ensures { let rows = rows_of (found_of matches.now) in option_map question_view result
-        ≡ one_asked (first_of (codes "FILE") rows) (first_of (codes "CLIENT") rows)
+        ≡ one_asked (first_of (codes "LIST") rows) (first_of (codes "CLIENT") rows)
         (first_of (codes "FILTER") rows) (option_copied user.entry) }
 {
     match (
-        value(matches, "FILE"),
+        value(matches, "LIST"),
         value(matches, "CLIENT"),
         value(matches, "FILTER"),
     ) {
@@ -222,13 +222,13 @@ fn reach_any_in<'a>(
     wanted: &'a str,
 ) -> Option<Question<'a>>
     ensures { let rows = rows_of (found_of matches.now) in option_map question_view result
-        ≡ any_asked (first_of (codes "FILE") rows) (first_of (codes "CLIENT") rows)
+        ≡ any_asked (first_of (codes "LIST") rows) (first_of (codes "CLIENT") rows)
         (first_of (codes "FILTER") rows) (option_copied user.entry) (first_of (codes "script") rows)
         wanted.entry.now }
 {
     let subscriptions = Subscriptions::OfAny { user, wanted };
     match (
-        value(matches, "FILE"),
+        value(matches, "LIST"),
         value(matches, "CLIENT"),
         value(matches, "FILTER"),
         value(matches, "script"),
@@ -248,11 +248,11 @@ fn reach_all_in<'a>(
     script: &'a str,
 ) -> Option<Question<'a>>
     ensures { let rows = rows_of (found_of matches.now) in option_map question_view result
-        ≡ all_asked (first_of (codes "FILE") rows) (first_of (codes "CLIENT") rows)
+        ≡ all_asked (first_of (codes "LIST") rows) (first_of (codes "CLIENT") rows)
         (first_of (codes "FILTER") rows) (option_copied user.entry) script.entry.now }
 {
     match (
-        value(matches, "FILE"),
+        value(matches, "LIST"),
         value(matches, "CLIENT"),
         value(matches, "FILTER"),
         user,
@@ -268,7 +268,7 @@ fn reach_all_in<'a>(
 // Of one subscription, or of those of a script.
 fn reach_some_in<'a>(matches: &ArgMatches<'a>, user: Option<&'a str>) -> Option<Question<'a>>
     ensures { let rows = rows_of (found_of matches.now) in option_map question_view result
-        ≡ some_asked (first_of (codes "FILE") rows) (first_of (codes "CLIENT") rows)
+        ≡ some_asked (first_of (codes "LIST") rows) (first_of (codes "CLIENT") rows)
         (first_of (codes "FILTER") rows) (option_copied user.entry) (first_of (codes "script") rows) }
 {
     match value(matches, "script") {
@@ -292,7 +292,7 @@ fn who_in<'a>(matches: &ArgMatches<'a>) -> Option<Question<'a>>
 {
     let only = value(matches, "only");
     match (
-        value(matches, "FILE"),
+        value(matches, "LIST"),
         value(matches, "FILTER"),
         access_in(matches, "access"),
     ) {

@@ -1,5 +1,6 @@
--- What is noted beside an answer.
-use Rattle.std.specs.Prelude.{◌++◌, ℕ, Bool, List, [], ◌∷◌, true, false, codes}
+-- For which clients an answer is.
+use Rattle.std.specs.Io.KnownBytes.{Appends}
+use Rattle.std.specs.Prelude.{◌++◌, ℕ, Bool, List, [], ◌∷◌, ◌≡◌, Option, true, false, codes}
 use Rattle.mq_acl.specs.declared.rules.Rules.{Rules}
 use Rattle.mq_acl.specs.declared.rules.Rules.TheVariants.{Own, Mosquitto}
 
@@ -7,7 +8,14 @@ abbrev pub by_mosquitto : Rules → Bool
 by_mosquitto Own = false
 by_mosquitto Mosquitto = true
 
--- that of `who`: for which clients it is answered by mosquitto's rules
-abbrev pub who_limit : List ℕ
-who_limit = codes "mqroute-acl: the answer is for client ids and user names without /, + and #"
-    ++ (10 ∷ [])
+-- for which clients an answer is that leaves others out
+abbrev pub limit_line : List ℕ
+limit_line = codes "the answer is for client ids and user names without /, + and #" ++ (10 ∷ [])
+
+-- a text ends with that
+abbrev pub EndsWithLimit : List ℕ → Type 0
+EndsWithLimit text = (shown : List ℕ) × (text ≡ shown ++ limit_line)
+
+-- what is written does
+abbrev pub SaysLimit : (before after : Option (List ℕ)) → Type 0
+SaysLimit before after = (text : List ℕ) × Appends before after text × EndsWithLimit text

@@ -24,7 +24,7 @@ pub use failure::{FAILED, Failure, UNREADABLE};
 pub use faults::fault_words;
 pub use foreign::foreign_words;
 pub use not_asked::{NOT_ASKED, add_not_asked, add_not_asked_json};
-pub use notes::{add_limit, add_limits, add_who_limit, is_limited};
+pub use notes::{LIMITED_TO, add_limit, add_limit_if, add_limits, add_who_limit, is_limited};
 pub use options::Options;
 pub use outcome::Outcome;
 pub use printing::{print, print_outcome};

@@ -1,16 +1,20 @@
-//! What is said beside an answer: of whom it isn't.
-ghost use Rattle.std.specs.Prelude.{◌≡◌, ◌++◌, ◌&&◌, OnOk, string_bytes};
+//! For which clients an answer is, where it isn't for all: in the answer, and beside it.
+ghost use Rattle.std.specs.Prelude.{◌≡◌, ◌++◌, ◌&&◌, OnOk, false, string_bytes, true};
 ghost use Rattle.mq_acl.specs.Views.{row_views};
 ghost use Rattle.mq_acl.specs.declared.rules.Rules.TheVariants.{Own, Mosquitto};
-ghost use Rattle.mq_ask.specs.Notes.{by_mosquitto, who_limit};
+ghost use Rattle.mq_ask.specs.Notes.{by_mosquitto, limit_line};
 ghost use Rattle.mq_witness.specs.Ruled.{has_patterns};
 
 use mq_acl::{Row, Rules};
+use mq_print::{Datum, add_object};
 use mq_witness::{has_pattern, is_pattern};
-use std::alloc::AllocError;
+use std::alloc::{AllocError, Global};
 
 // How many lines are named; of more it is said how many they are.
 const NAMED: usize = 8;
+
+/// For which client ids and user names an answer is that leaves others out, in JSON and XML.
+pub const LIMITED_TO: &str = "client ids and user names without /, + and #";
 
 // Adds the numbers of the lines of `pattern` rows.
 fn add_pattern_lines(notes: &mut String, rows: &[Row]) -> Result<(), AllocError> {
@@ -70,16 +74,37 @@ pub fn add_limits(
     add_limit(notes, rules, new.0, new.1)
 }
 
-/// Adds that by mosquitto's rules it isn't known of all client ids and user names who may.
-pub fn add_who_limit(notes: &mut String, rules: Rules) -> Result<(), AllocError>
-    ensures own { OnOk result (rules ≡ Own → notes.new ≡ notes.old) }
-    ensures mosquitto { OnOk result (rules ≡ Mosquitto
-        → string_bytes notes.new ≡ string_bytes notes.old ++ who_limit) }
+/// Adds by mosquitto's rules for which client ids and user names `who`, `test` and `reach --any` answer: behind what
+/// is shown, as a line or as a JSON object.
+pub fn add_who_limit(
+    alloc: Global,
+    text: &mut String,
+    rules: Rules,
+    json: bool,
+) -> Result<(), AllocError>
+    ensures own { OnOk result (rules ≡ Own → text.new ≡ text.old) }
+    ensures words { OnOk result (rules ≡ Mosquitto → json ≡ false
+        → string_bytes text.new ≡ string_bytes text.old ++ limit_line) }
 {
-    match rules {
-        Rules::Own => Ok(()),
-        Rules::Mosquitto => notes.push_str(
-            "mqroute-acl: the answer is for client ids and user names without /, + and #\n",
-        ),
+    add_limit_if(alloc, text, rules == Rules::Mosquitto, json)
+}
+
+/// Adds for which client ids and user names an answer is that leaves others out.
+pub fn add_limit_if(
+    alloc: Global,
+    text: &mut String,
+    is_limited: bool,
+    json: bool,
+) -> Result<(), AllocError>
+    ensures whole { OnOk result (is_limited ≡ false → text.new ≡ text.old) }
+    ensures words { OnOk result (is_limited ≡ true → json ≡ false
+        → string_bytes text.new ≡ string_bytes text.old ++ limit_line) }
+{
+    if !is_limited {
+        return Ok(());
     }
+    if json {
+        return add_object(alloc, text, &[("limited_to", Datum::Text(LIMITED_TO))]);
+    }
+    text.push_str("the answer is for client ids and user names without /, + and #\n")
 }

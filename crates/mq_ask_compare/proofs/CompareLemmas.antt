@@ -1,7 +1,7 @@
 -- What a list of differences says of two lists.
 use Rattle.std.proofs.Common.{◌≡◌, ◌⊎◌, ◌<◌, ◌++◌, ◌&&◌, suc, length, arith, ℕ, Bool, true, false, not}
 use Rattle.std.proofs.Common.{List, [], ◌∷◌, Option, Some, None, All, refl, sym, ◌∙◌, string_bytes, true≢false}
-use Rattle.std.proofs.Common.{subst, inl, inr, ap, ◌||◌, ◌≢◌}
+use Rattle.std.proofs.Common.{subst, inl, inr, ap, ◌||◌, ◌≢◌, Ok}
 use Rattle.std.specs.Borrow.{Bor}
 use Rattle.std.specs.List.{list_any}
 use Rattle.std.proofs.lemmas.Bool.{and_parts, false_from_ne_true, or_cases}
@@ -28,7 +28,8 @@ use Rattle.mq_differences.specs.declared.way.Way.TheVariants.{Gained, Lost}
 use Rattle.mq_who.proofs.ExtentLemmas.{any_weaker}
 use Rattle.mq_who.specs.Unasked.{has_text, is_not_compared}
 use Rattle.mq_ask_cases.proofs.WayLemmas.{way_is}
-use Rattle.mq_ask_compare.specs.Compare.{AreChanges, Differ, IsCompared, LeavesNoneOut}
+use Rattle.mq_ask_compare.specs.Compare.{AreChanges, AreLimited, Differ, IsCompared, LeavesNoneOut}
+use Rattle.mq_ask_compare.specs.Compare.{are_limited}
 use Rattle.mq_ask.specs.Lists.{IsTaken}
 use Rattle.mq_ask_compare.specs.Compare.{LeavesOut, NoneChanges, SomeChanges}
 use Rattle.mq_ask_compare.specs.Compare.{SaysWhetherSame}
@@ -218,3 +219,17 @@ allow_same rules old new same client name user direction asked valid =
     let rest = and_parts (can_be_user user)
     (are_asked_of rules (row_views old ++ row_views new) client user) id.1 in
     same client name user direction id.0 rest.0 rest.1 valid
+
+-- where the lists with these texts leave names out, so do their rows
+pub limited_of : (rules : Rules) (old new : List ℕ) (c : Changes) → AreChanges rules old new c
+    → AreLimited rules old new
+    → are_limited rules (row_views c.old.items) (row_views c.new.items) ≡ true
+limited_of rules old new c are limited =
+    let olds : row_views c.old.items ≡ limited.old_rows =
+    (let both : Ok (row_views c.old.items) ≡ Ok limited.old_rows =
+    sym are.old_rows.read ∙ limited.old_read in cc) in
+    let news : row_views c.new.items ≡ limited.new_rows =
+    (let both : Ok (row_views c.new.items) ≡ Ok limited.new_rows =
+    sym are.new_rows.read ∙ limited.new_read in cc) in
+    ap (λ (rows : List AclRow). are_limited rules rows (row_views c.new.items)) olds
+    ∙ ap (are_limited rules limited.old_rows) news ∙ limited.limited

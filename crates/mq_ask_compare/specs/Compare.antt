@@ -1,6 +1,6 @@
 -- Where two lists differ.
 use Rattle.std.specs.Prelude.{All, List, None, Ok, Option, Some, false, length, true, ℕ, ◌≢◌, ◌⊎◌}
-use Rattle.std.specs.Prelude.{◌++◌, ◌<◌, [], ◌+◌, ◌≡◌}
+use Rattle.std.specs.Prelude.{◌++◌, ◌<◌, [], ◌+◌, ◌≡◌, Bool, ◌&&◌, ◌||◌}
 use Rattle.mq_acl.specs.AccessLists.{allow_by}
 use Rattle.mq_acl.specs.Rows.{AclRow, rows_by}
 use Rattle.mq_acl.specs.Views.{row_views}
@@ -9,6 +9,7 @@ use Rattle.mq_acl.specs.declared.row.Row.{Row}
 use Rattle.mq_acl.specs.declared.rules.Rules.{Rules}
 use Rattle.mq_ask.specs.Failures.{IsListFailure, IsRowLine}
 use Rattle.mq_ask.specs.Lists.{AreRows, IsTaken}
+use Rattle.mq_ask.specs.Notes.{by_mosquitto}
 use Rattle.mq_ask.specs.declared.failure.Failure.{Failure}
 use Rattle.mq_ask.specs.declared.failure.Failure.TheVariants as failure
 use Rattle.mq_print.specs.declared.list.ListText.{ListText}
@@ -23,6 +24,7 @@ use Rattle.mq_lint.specs.Needless.{AllowSame, is_asked}
 use Rattle.mq_topic.specs.Texts.{is_name}
 use Rattle.mq_who.specs.Unasked.{is_not_compared}
 use Rattle.mq_witness.specs.Clients.{can_be_id}
+use Rattle.mq_witness.specs.Ruled.{has_patterns}
 
 -- the lists with these texts differ so by these rules, and not otherwise: all that changes for a client
 -- that a broker can have, and that is asked about, is shown, and once
@@ -97,6 +99,19 @@ pub record IsCompared (rules : Rules) (only : Option Way) (old new : List ℕ)
   pub old_read : rows_by rules old ≡ Ok old_rows
   pub new_read : rows_by rules new ≡ Ok new_rows
   pub outcome_of : SaysWhetherSame rules only old_rows new_rows outcome
+
+-- by mosquitto's rules one of the lists has a `pattern` row: client ids and user names are left out
+abbrev pub are_limited : Rules → (old new : List AclRow) → Bool
+are_limited rules old new =
+    (by_mosquitto rules && has_patterns old) || (by_mosquitto rules && has_patterns new)
+
+-- and so it is of the lists with these texts
+pub record AreLimited (rules : Rules) (old new : List ℕ) : Type 0 where
+  pub old_rows : List AclRow
+  pub new_rows : List AclRow
+  pub old_read : rows_by rules old ≡ Ok old_rows
+  pub new_read : rows_by rules new ≡ Ok new_rows
+  pub limited : are_limited rules old_rows new_rows ≡ true
 
 -- so many steps didn't suffice to know what a row of one of the lists changes; more are enough
 abbrev pub IsGivenUpOfTwo : Rules → (old new : ListText) → (steps : ℕ) → Failure → Type 0

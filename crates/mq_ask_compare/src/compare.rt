@@ -1,21 +1,23 @@
 //! The answer to `compare`.
 ghost use Rattle.std.specs.List.{filter, list_any};
 ghost use Rattle.std.specs.Prelude.{◌≡◌, ◌≢◌, ◌⊎◌, ◌++◌, ℕ, List, [], IfOk, IfErr, OnOk, false};
-ghost use Rattle.std.specs.Prelude.{true};
+ghost use Rattle.std.specs.Prelude.{string_bytes, true};
 ghost use Rattle.mq_acl.specs.Views.{row_views};
 ghost use Rattle.mq_acl.specs.declared.rules.Rules.TheVariants.{Own};
 ghost use Rattle.mq_ask.specs.Lists.{AreRows};
+ghost use Rattle.mq_ask.specs.Notes.{EndsWithLimit, SaysLimit};
 ghost use Rattle.mq_ask.specs.Statuses.{failure_status};
 ghost use Rattle.mq_ask_cases.specs.Ways.{is_way};
 ghost use Rattle.mq_ask_compare.specs.Compare.{AreChanges, IsCompared, SaysWhetherSame};
-ghost use Rattle.mq_ask_compare.specs.Compare.{IsComparisonFailure};
+ghost use Rattle.mq_ask_compare.specs.Compare.{AreLimited, IsComparisonFailure, are_limited};
 ghost use Rattle.mq_differences.specs.Faults.{IsComparisonFault};
 ghost use Rattle.mq_who.specs.Unasked.{has_text, is_not_compared};
 
 use crate::changes::{ComparedTraffic, Scope, changes_text};
 use mq_acl::{Row, Rules};
 use mq_ask::{
-    Failure, Options, Outcome, add_limits, check_taken, is_limited, print_outcome, rows_in,
+    Failure, Options, Outcome, add_limit_if, add_limits, check_taken, is_limited, print_outcome,
+    rows_in,
 };
 use mq_ask_cases::{ScriptTraffic, is_way};
 use mq_differences::{ComparisonFault, Difference, Side, Way, compare};
@@ -47,7 +49,9 @@ impl Drop for Changes {
 
 impl Changes {
     // The rows of both lists, and where they differ.
-    fn into_parts(self) -> (Vec<Row>, Vec<Row>, Vec<Difference>) {
+    fn into_parts(self) -> (Vec<Row>, Vec<Row>, Vec<Difference>)
+        ensures { result ≡ (self.old, self.new, self.differences) }
+    {
         let Changes {
             old,
             new,
@@ -189,6 +193,13 @@ fn asked(
         .collect(alloc)
 }
 
+// Whether client ids and user names are left out.
+fn are_limited(rules: Rules, old: &[Row], new: &[Row]) -> bool
+    ensures { result ≡ are_limited rules (row_views old.now) (row_views new.now) }
+{
+    is_limited(rules, old) || is_limited(rules, new)
+}
+
 fn answer_text(
     alloc: Global,
     lists: (ListText<'_, '_>, ListText<'_, '_>),
@@ -196,10 +207,15 @@ fn answer_text(
     script: Option<ScriptTraffic<'_>>,
     options: Options,
     changes: Changes,
-) -> Result<String, AllocError> {
+) -> Result<String, AllocError>
+    ensures limited { IfOk result (λ text. are_limited options.rules (row_views changes.old.items)
+        (row_views changes.new.items) ≡ true → options.json ≡ false
+        → EndsWithLimit (string_bytes text)) }
+{
     let (old, new, differences) = changes.into_parts();
     let not_asked = users_not_compared(alloc, options.rules, &old, &new)?;
     let rules = options.rules;
+    let limited = are_limited(rules, &old, &new);
     let traffic = script.map(|script| ComparedTraffic {
         script,
         old: &old,
@@ -208,19 +224,21 @@ fn answer_text(
     let scope = Scope {
         rules,
         only,
-        is_limited: is_limited(rules, &old) || is_limited(rules, &new),
+        is_limited: limited,
         not_asked: &not_asked,
         traffic,
         coloured: options.coloured,
     };
     let differences = asked(alloc, differences, only)?;
-    changes_text(alloc, scope, lists.0, lists.1, differences, options.json)
+    let mut text = changes_text(alloc, scope, lists.0, lists.1, differences, options.json)?;
+    add_limit_if(alloc, &mut text, limited, options.json)?;
+    Ok(text)
 }
 
 /// Shows where the lists with these texts differ, or what one of them alone allows, if so many
-/// steps suffice to know it, and notes of whom it isn't known. Where a script is given, its publishes
-/// that each difference is about at most are counted. Of a list that mosquitto doesn't take nothing
-/// is answered.
+/// steps suffice to know it, and last for which clients that is, where others are left out; `notes`
+/// say by which lines. Where a script is given, its publishes that each difference is about at most
+/// are counted. Of a list that mosquitto doesn't take nothing is answered.
 pub fn show_changes<'a, W: Write>(
     alloc: Global,
     old: ListText<'a, '_>,
@@ -234,6 +252,8 @@ pub fn show_changes<'a, W: Write>(
     ensures ok { IfOk result (IsCompared options.rules only old.entry.text.now
         new.entry.text.now) }
     ensures unread { IfErr result (λ failure. failure_status failure ≡ 2 → out.new ≡ out.old) }
+    ensures limited { OnOk result (AreLimited options.rules old.entry.text.now new.entry.text.now
+        → options.json ≡ false → SaysLimit (W.contents out.old) (W.contents out.new)) }
     ensures quiet { OnOk result (options.rules ≡ Own → notes.new ≡ notes.old) }
 {
     check_taken(alloc, old)?;
@@ -246,6 +266,6 @@ pub fn show_changes<'a, W: Write>(
         (old.file, &changes.old),
         (new.file, &changes.new),
     )?;
-    let text = answer_text(alloc, (old, new), only, script, options, changes);
-    print_outcome(out, text, outcome)
+    let text = answer_text(alloc, (old, new), only, script, options, changes)?;
+    print_outcome(out, Ok(text), outcome)
 }

@@ -10,9 +10,11 @@ ghost use denote.Ref.{Bor};
 
 use crate::remarks::{add_empty, add_none, add_refused, add_remarks};
 use mq_acl::{AclKind, Row, Rules, read_rows_by};
-use mq_ask::{Failure, Options, Outcome, add_limit, foreign_words, is_limited, rows_in};
+use mq_ask::{
+    Failure, LIMITED_TO, Options, Outcome, add_limit, foreign_words, is_limited, rows_in,
+};
 use mq_lint::{NeedlessFault, Remark, RemarkKind, needless, remarks};
-use mq_print::ListText;
+use mq_print::{Datum, ListText, add_object};
 use std::alloc::{AllocError, Global};
 
 /// The remarks on a list.
@@ -210,6 +212,25 @@ fn add_whole(
     add_none(answer, file, options.rules, limited)
 }
 
+// Adds as JSON for which clients the remarks hold, where others are left out. In words each says so of itself.
+fn add_limit_json(
+    alloc: Global,
+    answer: &mut String,
+    file: &str,
+    found: &Remarks,
+    options: Options,
+) -> Result<(), AllocError> {
+    if !options.json || !is_limited(options.rules, &found.rows) {
+        return Ok(());
+    }
+    let limit = Datum::Text(LIMITED_TO);
+    add_object(
+        alloc,
+        answer,
+        &[("file", Datum::Text(file)), ("limited_to", limit)],
+    )
+}
+
 /// Adds to an answer what is odd or needless in the list, if so many steps suffice to know it, and
 /// which lines mosquitto doesn't take; and notes of whom it isn't known.
 pub fn add_lint<'a>(
@@ -232,5 +253,6 @@ pub fn add_lint<'a>(
     add_remarks(alloc, answer, list, &found.odd, &found.needless, options)?;
     add_refused(alloc, answer, list, &found.odd, &refused, options)?;
     add_whole(alloc, answer, list.file, &found, options)?;
+    add_limit_json(alloc, answer, list.file, &found, options)?;
     Ok(Linted { outcome, is_taken })
 }

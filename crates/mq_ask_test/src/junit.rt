@@ -2,6 +2,8 @@
 use crate::list::ReadList;
 use crate::text::add_why;
 use crate::verdicts::{Verdict, holding};
+use mq_acl::Rules;
+use mq_ask::LIMITED_TO;
 use mq_print::{Escape, Lines, ListText, lines_of, shown_lines};
 use std::alloc::{AllocError, Global};
 
@@ -92,9 +94,20 @@ fn add_suite(
     )
 }
 
+// Adds for which clients the verdicts are, where that isn't all.
+fn add_properties(text: &mut String, rules: Rules) -> Result<(), AllocError> {
+    if rules == Rules::Own {
+        return Ok(());
+    }
+    text.push_str("    <properties>\n      <property name=\"limited_to\"")?;
+    add_attribute(text, "value", LIMITED_TO)?;
+    text.push_str("/>\n    </properties>\n")
+}
+
 /// The verdicts as a test suite: each line is a case of the list that it is judged of.
 pub fn junit_text(
     alloc: Global,
+    rules: Rules,
     expected: ListText<'_, '_>,
     lists: &[ReadList<'_, '_>],
     verdicts: &[Verdict<'_, '_>],
@@ -107,6 +120,7 @@ pub fn junit_text(
     let mut text = String::new(alloc);
     let failing = verdicts.len().saturating_sub(holding(verdicts));
     add_suite(&mut text, expected.file, verdicts.len(), failing)?;
+    add_properties(&mut text, rules)?;
     for verdict in verdicts {
         add_case(alloc, &mut text, expectations, lists, verdict)?;
     }

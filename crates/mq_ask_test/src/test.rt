@@ -1,6 +1,8 @@
 //! The answer to `test`: whether lists are as a file of expectations says.
-ghost use Rattle.std.specs.Prelude.{◌≢◌, [], List, All, IfOk, map};
+ghost use Rattle.std.specs.Prelude.{◌≡◌, ◌≢◌, [], List, All, IfOk, false, map, string_bytes};
 ghost use Rattle.mq_acl.specs.declared.rules.Rules.{Rules};
+ghost use Rattle.mq_acl.specs.declared.rules.Rules.TheVariants.{Mosquitto};
+ghost use Rattle.mq_ask.specs.Notes.{EndsWithLimit};
 ghost use Rattle.mq_ask_test.specs.Findings.{IsVerdict};
 ghost use Rattle.mq_ask_test.specs.Questions.{asked_view, questions};
 ghost use Rattle.mq_ask_test.specs.Tested.{ShowsTested};
@@ -12,6 +14,7 @@ use crate::junit::junit_text;
 use crate::list::ReadList;
 use crate::text::verdicts_text;
 use crate::verdicts::{Verdict, all_hold, judge_all};
+use mq_acl::Rules;
 use mq_ask::{Failure, Options, Outcome};
 use mq_expect::Numbered;
 use mq_print::ListText;
@@ -77,6 +80,7 @@ pub struct Tested {
 fn junit_if(
     alloc: Global,
     junit: bool,
+    rules: Rules,
     expected: ListText<'_, '_>,
     lists: &[ReadList<'_, '_>],
     verdicts: &[Verdict<'_, '_>],
@@ -84,7 +88,7 @@ fn junit_if(
     if !junit {
         return Ok(None);
     }
-    let text = junit_text(alloc, expected, lists, verdicts)?;
+    let text = junit_text(alloc, rules, expected, lists, verdicts)?;
     Ok(Some(text))
 }
 
@@ -104,6 +108,8 @@ pub fn test_lists<'t>(
         (questions (map (λ file. file.now) given.now) (numbered_views expectations.now)) shown.outcome) }
     ensures some { IfOk result (λ _.
         questions (map (λ file. file.now) given.now) (numbered_views expectations.now) ≢ []) }
+    ensures limited { IfOk result (λ shown. options.rules ≡ Mosquitto → options.json ≡ false
+        → EndsWithLimit (string_bytes shown.text)) }
 {
     let rules = options.rules;
     let verdicts = match judge_all(alloc, rules, given, expectations, lists, options.steps) {
@@ -116,7 +122,7 @@ pub fn test_lists<'t>(
     let outcome = outcome_of(&verdicts);
     Ok(Tested {
         text: verdicts_text(alloc, rules, expected, lists, &verdicts, options.json)?,
-        junit: junit_if(alloc, junit, expected, lists, &verdicts)?,
+        junit: junit_if(alloc, junit, rules, expected, lists, &verdicts)?,
         outcome,
     })
 }

@@ -1,4 +1,8 @@
 //! The verdicts, in words and as JSON.
+ghost use Rattle.std.specs.Prelude.{◌≡◌, IfOk, false, string_bytes};
+ghost use Rattle.mq_acl.specs.declared.rules.Rules.TheVariants.{Mosquitto};
+ghost use Rattle.mq_ask.specs.Notes.{EndsWithLimit};
+
 use crate::case::{Case, Decided, case_of};
 use crate::finding::Finding;
 use crate::list::ReadList;
@@ -6,6 +10,7 @@ use crate::objects::json_lines;
 use crate::verdicts::{Verdict, holding};
 use crate::words::finding_words;
 use mq_acl::{Direction, Rules};
+use mq_ask::add_who_limit;
 use mq_ask_cases::{shown_topic, who_text};
 use mq_print::{Escape, Lines, ListText, lines_of, shown_lines};
 use std::alloc::{AllocError, Global};
@@ -116,9 +121,8 @@ fn words(
     shown_lines(alloc, text.as_str(), Escape::Words)
 }
 
-/// The lines that don't hold, each with why, and how many do; or as JSON, all of them, one a line,
-/// and then how many hold.
-pub fn verdicts_text(
+// All but for which clients it is.
+fn said(
     alloc: Global,
     rules: Rules,
     expectations: ListText<'_, '_>,
@@ -135,4 +139,22 @@ pub fn verdicts_text(
         return json_lines(alloc, expectations, lists, verdicts);
     }
     words(alloc, rules, expectations, lists, verdicts)
+}
+
+/// The lines that don't hold, each with why, and how many do; or as JSON, all of them, one a line,
+/// and then how many hold. Last it has for which clients that is.
+pub fn verdicts_text(
+    alloc: Global,
+    rules: Rules,
+    expectations: ListText<'_, '_>,
+    lists: &[ReadList<'_, '_>],
+    verdicts: &[Verdict<'_, '_>],
+    json: bool,
+) -> Result<String, AllocError>
+    ensures limited { IfOk result (λ text. rules ≡ Mosquitto → json ≡ false
+        → EndsWithLimit (string_bytes text)) }
+{
+    let mut text = said(alloc, rules, expectations, lists, verdicts, json)?;
+    add_who_limit(alloc, &mut text, rules, json)?;
+    Ok(text)
 }

@@ -1,11 +1,12 @@
 //! The answer to `reach --any`.
 ghost use Rattle.std.specs.Option.{option_copied};
-ghost use Rattle.std.specs.Prelude.{◌≡◌, ℕ, List, Option, IfOk, IfErr, OnOk};
+ghost use Rattle.std.specs.Prelude.{◌≡◌, ℕ, List, Option, IfOk, IfErr, OnOk, false};
 ghost use Rattle.mq_acl.specs.Views.{row_views};
 ghost use Rattle.mq_acl.specs.declared.row.Row.{Row};
 ghost use Rattle.mq_acl.specs.declared.rules.Rules.{Rules};
-ghost use Rattle.mq_acl.specs.declared.rules.Rules.TheVariants.{Own};
+ghost use Rattle.mq_acl.specs.declared.rules.Rules.TheVariants.{Mosquitto};
 ghost use Rattle.mq_ask.specs.Lists.{AreRows};
+ghost use Rattle.mq_ask.specs.Notes.{SaysLimit};
 ghost use Rattle.mq_ask.specs.Statuses.{failure_status};
 ghost use Rattle.mq_ask_who.specs.ReachAny.{IsAnyFailure, IsFound, IsFoundIn, IsReachedByAny};
 ghost use Rattle.mq_ask_who.specs.ReachAny.{SaysWhetherAny, claim_about, whom_for};
@@ -113,7 +114,7 @@ fn outcome_of(found: &Option<Difference>) -> Outcome
 }
 
 /// Shows a client with this user name, or without one, and a topic that the filter matches and that
-/// it can be sent, or that none of them can be sent anything; and notes of whom it isn't known.
+/// it can be sent, or that none of them can be sent anything; and last for which clients that is.
 pub fn show_reach_any<'a, W: Write>(
     alloc: Global,
     list: ListText<'a, '_>,
@@ -121,16 +122,16 @@ pub fn show_reach_any<'a, W: Write>(
     wanted: &'a str,
     options: Options,
     out: &mut W,
-    notes: &mut String,
 ) -> Result<Outcome, Failure<'a>>
     ensures ok { IfOk result (IsReachedByAny options.rules list.entry.text.now
         (option_copied user.entry) wanted.entry.now) }
     ensures unread { IfErr result (λ failure. failure_status failure ≡ 2 → out.new ≡ out.old) }
-    ensures quiet { OnOk result (options.rules ≡ Own → notes.new ≡ notes.old) }
+    ensures limited { OnOk result (options.rules ≡ Mosquitto → options.json ≡ false
+        → SaysLimit (W.contents out.old) (W.contents out.new)) }
 {
     let found = find_any(alloc, options.rules, list, user, wanted, options.steps)?;
-    add_who_limit(notes, options.rules)?;
     let outcome = outcome_of(&found);
-    let text = any_text(alloc, list, (user, wanted), found.as_ref(), options.json);
-    print_outcome(out, text, outcome)
+    let mut text = any_text(alloc, list, (user, wanted), found.as_ref(), options.json)?;
+    add_who_limit(alloc, &mut text, options.rules, options.json)?;
+    print_outcome(out, Ok(text), outcome)
 }

@@ -1,16 +1,16 @@
 //! The answer to `who`.
 ghost use Rattle.std.specs.List.{filter, list_any};
 ghost use Rattle.std.specs.Option.{option_copied};
-ghost use Rattle.std.specs.Prelude.{◌≡◌, ◌⊎◌, ◌++◌, ◌&&◌, ℕ, List, [], ◌∷◌, IfOk, IfErr, OnOk};
-ghost use Rattle.std.specs.Prelude.{false, true, string_bytes};
+ghost use Rattle.std.specs.Prelude.{◌≡◌, ◌⊎◌, ◌&&◌, ℕ, List, [], ◌∷◌, IfOk, IfErr, OnOk};
+ghost use Rattle.std.specs.Prelude.{false, true};
 ghost use Rattle.mq_acl.specs.Refused.{refuses};
 ghost use Rattle.mq_acl.specs.Views.{row_views};
 ghost use Rattle.mq_acl.specs.declared.row.Row.{Row};
 ghost use Rattle.mq_acl.specs.declared.rules.Rules.{Rules};
-ghost use Rattle.mq_acl.specs.declared.rules.Rules.TheVariants.{Own, Mosquitto};
+ghost use Rattle.mq_acl.specs.declared.rules.Rules.TheVariants.{Mosquitto};
 ghost use Rattle.mq_ask.specs.Failures.{IsListFailure};
 ghost use Rattle.mq_ask.specs.Lists.{AreRows};
-ghost use Rattle.mq_ask.specs.Notes.{who_limit};
+ghost use Rattle.mq_ask.specs.Notes.{SaysLimit};
 ghost use Rattle.mq_ask.specs.Statuses.{failure_status};
 ghost use Rattle.mq_ask_who.specs.Who.{IsWhoFailure, ArePermissions, IsWho, SaysWhetherOthers};
 ghost use Rattle.mq_ask_who.specs.Who.{has_word, is_kept, is_left_out, is_shown, is_unshared};
@@ -289,7 +289,7 @@ fn answer_text(
 }
 
 /// Shows who may by the list read or write the topics that the filter matches, if so many steps suffice to know it; and
-/// notes of whom it isn't known. Where a script is given, its publishes that each is about at most are counted.
+/// last for which clients that is. Where a script is given, its publishes that each is about at most are counted.
 pub fn show_who<'a, W: Write>(
     alloc: Global,
     list: ListText<'a, '_>,
@@ -298,17 +298,14 @@ pub fn show_who<'a, W: Write>(
     script: Option<ScriptTraffic<'_>>,
     options: Options,
     out: &mut W,
-    notes: &mut String,
 ) -> Result<Outcome, Failure<'a>>
     ensures ok { IfOk result (IsWho options.rules list.entry.text.now wanted.entry.now
         selection.entry.access (option_copied selection.entry.only)) }
     ensures unread { IfErr result (λ failure. failure_status failure ≡ 2 → out.new ≡ out.old) }
-    ensures quiet { OnOk result (options.rules ≡ Own → notes.new ≡ notes.old) }
-    ensures limited { OnOk result (options.rules ≡ Mosquitto
-        → string_bytes notes.new ≡ string_bytes notes.old ++ who_limit) }
+    ensures limited { OnOk result (options.rules ≡ Mosquitto → options.json ≡ false
+        → SaysLimit (W.contents out.old) (W.contents out.new)) }
 {
     let permissions = find_permissions(alloc, options.rules, list, wanted, options.steps)?;
-    add_who_limit(notes, options.rules)?;
     let rows = rows_in(alloc, options.rules, list)?;
     let users = not_asked(alloc, options.rules, &rows, selection.only)?;
     let outcome = outcome_of(&permissions.granted, &selection, &users);
@@ -326,6 +323,7 @@ pub fn show_who<'a, W: Write>(
         refused: &refused,
         traffic,
     };
-    let text = answer_text(alloc, list, asked, &selection, permissions, options.json);
-    print_outcome(out, text, outcome)
+    let mut text = answer_text(alloc, list, asked, &selection, permissions, options.json)?;
+    add_who_limit(alloc, &mut text, options.rules, options.json)?;
+    print_outcome(out, Ok(text), outcome)
 }

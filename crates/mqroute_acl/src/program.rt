@@ -152,13 +152,11 @@ fn answer_who<'a, R: Files, I: Read, W: Write>(
     options: Options,
     input: &mut I,
     out: &mut W,
-    notes: &mut String,
 ) -> Result<Outcome, Failure<'a>>
     ensures ok { IfOk result (λ outcome. (text : List ℕ)
         × IsTextOf (I.remaining input.old) asked.entry.file.now text
         × IsWho options.rules text asked.entry.wanted.now asked.entry.selection.access
         (option_copied asked.entry.selection.only) outcome) }
-    ensures quiet { OnOk result (options.rules ≡ Own → notes.new ≡ notes.old) }
     ensures unread { IfErr result (λ failure. failure_status failure ≡ 2 → out.new ≡ out.old) }
     ensures kept { input_count (asked.entry.file.now ∷ script_file (option_copied asked.entry.script))
         ≡ 0 → input.new ≡ input.old }
@@ -178,7 +176,6 @@ fn answer_who<'a, R: Files, I: Read, W: Write>(
         script,
         options,
         out,
-        notes,
     )
 }
 
@@ -214,9 +211,9 @@ fn answer<'a, R: Files, I: Read, W: Write>(
         Question::Lint(files) => {
             answer_lint(rt, alloc, files.as_slice(), options, input, out, notes)
         }
-        Question::Reach(asked) => answer_reach(rt, alloc, asked, options, input, out, notes),
-        Question::Who(asked) => answer_who(rt, alloc, asked, options, input, out, notes),
-        Question::Test(asked) => answer_test(rt, alloc, &asked, options, input, out, notes),
+        Question::Reach(asked) => answer_reach(rt, alloc, asked, options, input, out),
+        Question::Who(asked) => answer_who(rt, alloc, asked, options, input, out),
+        Question::Test(asked) => answer_test(rt, alloc, &asked, options, input, out),
     }
 }
 

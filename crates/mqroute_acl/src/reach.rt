@@ -1,7 +1,6 @@
 //! Whether subscriptions can be sent anything.
-ghost use Rattle.std.specs.Prelude.{◌≡◌, ◌≤◌, ◌∷◌, ℕ, List, [], IfOk, IfErr, OnOk, false};
+ghost use Rattle.std.specs.Prelude.{◌≡◌, ◌≤◌, ◌∷◌, ℕ, List, [], IfOk, IfErr, false};
 ghost use Rattle.std.specs.Option.{option_copied};
-ghost use Rattle.mq_acl.specs.declared.rules.Rules.TheVariants.{Own};
 ghost use Rattle.mq_acl_args.specs.CommandLine.{ReadsInputOnce, files_of, reach_view};
 ghost use Rattle.mq_acl_args.specs.Files.{input_count, is_input as is_dash};
 ghost use Rattle.mq_ask_reach.specs.Reach.{IsReached};
@@ -55,12 +54,10 @@ fn answer_reach_any<'a, R: Files, I: Read, W: Write>(
     options: Options,
     input: &mut I,
     out: &mut W,
-    notes: &mut String,
 ) -> Result<Outcome, Failure<'a>>
     ensures ok { IfOk result (λ outcome. (text : List ℕ)
         × IsTextOf (I.remaining input.old) about.entry.0.now text
         × IsReachedByAny options.rules text (option_copied about.entry.1) about.entry.2.now outcome) }
-    ensures quiet { OnOk result (options.rules ≡ Own → notes.new ≡ notes.old) }
     ensures unread { IfErr result (λ failure. failure_status failure ≡ 2 → out.new ≡ out.old) }
     ensures kept { input_count (about.entry.0.now ∷ []) ≡ 0 → input.new ≡ input.old }
 {
@@ -69,7 +66,7 @@ fn answer_reach_any<'a, R: Files, I: Read, W: Write>(
         file: about.0,
         text: text.as_str(),
     };
-    show_reach_any(alloc, list, about.1, about.2, options, out, notes)
+    show_reach_any(alloc, list, about.1, about.2, options, out)
 }
 
 /// Of the script in a file.
@@ -132,12 +129,10 @@ pub(crate) fn answer_reach<'a, R: Files, I: Read, W: Write>(
     options: Options,
     input: &mut I,
     out: &mut W,
-    notes: &mut String,
 ) -> Result<Outcome, Failure<'a>>
     requires { ReadsInputOnce (reach_view asked.file.now asked.subscriptions) }
     ensures ok { IfOk result (λ outcome. IsAnswer options.rules
         (I.remaining input.old) (reach_view asked.entry.file.now asked.entry.subscriptions) outcome) }
-    ensures quiet { OnOk result (options.rules ≡ Own → notes.new ≡ notes.old) }
     ensures unread { IfErr result (λ failure. failure_status failure ≡ 2 → out.new ≡ out.old) }
     ensures kept { input_count (files_of (reach_view asked.entry.file.now asked.entry.subscriptions)) ≡ 0
         → input.new ≡ input.old }
@@ -150,7 +145,7 @@ pub(crate) fn answer_reach<'a, R: Files, I: Read, W: Write>(
         }
         Subscriptions::OfAny { user, wanted } => {
             let about = (file, user, wanted);
-            answer_reach_any(rt, alloc, about, options, input, out, notes)
+            answer_reach_any(rt, alloc, about, options, input, out)
         }
         Subscriptions::In(script) => {
             answer_reach_all(rt, alloc, file, script, options, input, out)

@@ -4,7 +4,6 @@ ghost use Rattle.std.specs.Prelude.{◌≡◌, ◌≤◌, ◌++◌, ◌∷◌, [
 ghost use Rattle.std.specs.Prelude.{OnOk, map};
 ghost use Rattle.std.specs.Str.{bytes_eq};
 ghost use Rattle.mq_acl.specs.declared.rules.Rules.{Rules};
-ghost use Rattle.mq_acl.specs.declared.rules.Rules.TheVariants.{Own};
 ghost use Rattle.mq_acl_args.specs.Files.{input_count};
 ghost use Rattle.mq_ask.specs.Statuses.{failure_status};
 ghost use Rattle.mq_ask_test.specs.declared.list.ReadList.{ReadList};
@@ -15,7 +14,7 @@ use crate::files::{opened_text, text_of};
 use crate::report::{Report, is_read_file};
 use mq_acl::Rules;
 use mq_acl_args::Test;
-use mq_ask::{Failure, Options, Outcome, add_who_limit, list_failure, print_outcome};
+use mq_ask::{Failure, Options, Outcome, list_failure, print_outcome};
 use mq_ask_test::{ReadList, Tested, read_list, test_lists, wanted_files};
 use mq_expect::read_expectations;
 use mq_print::ListText;
@@ -183,14 +182,12 @@ fn tested<'t, R: Files, I: Read>(
     junit: Option<&'t str>,
     options: Options,
     input: &mut I,
-    notes: &mut String,
 ) -> Result<Tested, Failure<'t>>
     requires { input_count (map (λ file. file.now) given.now) ≤ 1 }
     ensures ok { IfOk result (λ shown. (known : Option (List ℕ))
         → (1 ≤ input_count (map (λ file. file.now) given.now) → known ≡ I.remaining input.old)
         → IsTested options.rules known expected.entry.text.now
         (map (λ file. file.now) given.now) shown.outcome) }
-    ensures quiet { OnOk result (options.rules ≡ Own → notes.new ≡ notes.old) }
     ensures kept { input_count (map (λ file. file.now) given.now) ≡ 0 → input.new ≡ input.old }
 {
     let mut lists = given_texts(rt, alloc, given, input)?;
@@ -199,7 +196,6 @@ fn tested<'t, R: Files, I: Read>(
     keep_apart(rt, junit, expected.file, given, &wanted)?;
     add_all_named(rt, alloc, given, &wanted, &mut lists)?;
     let read = read_all(alloc, options.rules, &lists)?;
-    add_who_limit(notes, options.rules)?;
     test_lists(
         alloc,
         expected,
@@ -287,7 +283,6 @@ pub(crate) fn answer_test<'a, R: Files, I: Read, W: Write>(
     options: Options,
     input: &mut I,
     out: &mut W,
-    notes: &mut String,
 ) -> Result<Outcome, Failure<'a>>
     requires { input_count (asked.now.expected.now
         ∷ map (λ file. file.now) asked.now.lists.items) ≤ 1 }
@@ -295,7 +290,6 @@ pub(crate) fn answer_test<'a, R: Files, I: Read, W: Write>(
         × IsTextOf (I.remaining input.old) asked.entry.now.expected.now text
         × IsTested options.rules (I.remaining input.old) text
         (map (λ file. file.now) asked.entry.now.lists.items) outcome) }
-    ensures quiet { OnOk result (options.rules ≡ Own → notes.new ≡ notes.old) }
     ensures unread { IfErr result (λ failure. failure_status failure ≡ 2 → out.new ≡ out.old) }
     ensures kept { input_count (asked.entry.now.expected.now
         ∷ map (λ file. file.now) asked.entry.now.lists.items) ≡ 0 → input.new ≡ input.old }
@@ -306,7 +300,7 @@ pub(crate) fn answer_test<'a, R: Files, I: Read, W: Write>(
         file: asked.expected,
         text: text.as_str(),
     };
-    match tested(rt, alloc, said, &given, asked.junit, options, input, notes) {
+    match tested(rt, alloc, said, &given, asked.junit, options, input) {
         Ok(shown) => write_tested(rt, alloc, asked.junit, shown, out),
         Err(failure) => Err(Failure::of_named(alloc, failure)),
     }

@@ -34,6 +34,7 @@ class Lists:
         given = [self.current.program, subcommand, "--json", f"--rules={self.rules}", *words]
         done = output_of(given, self.named)
         shown = [json.loads(line) for line in lines_of(done.stdout.decode("utf-8"))]
+        shown = [row for row in shown if "limited_to" not in row]  # the notes say so, with lines
         notes = lines_of(self.named(done.stderr.decode("utf-8", "replace")))
         return shown, notes
 
@@ -47,7 +48,7 @@ class Lists:
             done = output_of([one.program, *words], self.named, (0, 1, 2))
             rows = map(json.loads, lines_of(done.stdout.decode("utf-8")))
             lines += [NotTaken(Line(one.name, row["line"], row["text"]), row["words"])
-                      for row in rows if row["kind"] in KINDS]
+                      for row in rows if row.get("kind") in KINDS]
         if lines:
             raise ListsNotTaken(lines)
 

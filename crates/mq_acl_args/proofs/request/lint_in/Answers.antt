@@ -8,8 +8,8 @@ use Rattle.mq_acl_args.proofs.request.lint_in.Goals as goal
 pub returns-in_ok-files-in-Some : goal.returns-in_ok-files-in-Some
 returns-in_ok-files-in-Some c =
     let found = found_of c.args.matches.now in
-    let given : Some (map (λ v. v.now) c.in-Some.files.now) ≡ all_of (codes "FILE") (rows_of found)
-    = rw c.in-Some.is at (c.get_strs.ensures ∙ raw_values-rows found (codes "FILE")) in
+    let given : Some (map (λ v. v.now) c.in-Some.files.now) ≡ all_of (codes "LIST") (rows_of found)
+    = rw c.in-Some.is at (c.get_strs.ensures ∙ raw_values-rows found (codes "LIST")) in
     ap (λ files. Some (Lint (map (λ file. file.now) files))) c.in_ok-files-in-Some.ensures.items
     ∙ ap (option_map Lint) given
 
@@ -17,4 +17,4 @@ pub returns-in-None : goal.returns-in-None
 returns-in-None c =
     let found = found_of c.args.matches.now in
     ap (option_map Lint)
-    (rw c.in-None.is at (c.get_strs.ensures ∙ raw_values-rows found (codes "FILE")))
+    (rw c.in-None.is at (c.get_strs.ensures ∙ raw_values-rows found (codes "LIST")))

@@ -1,5 +1,6 @@
 use Rattle.std.specs.Option.{option_copied}
-use Rattle.std.proofs.lemmas.Result.{IfOk-weaker}
+use Rattle.std.proofs.Common.{string_bytes}
+use Rattle.std.proofs.lemmas.Result.{IfOk-weaker, on_ok_weaker}
 use Rattle.mq_acl.specs.Views.{row_views}
 use Rattle.mq_ask_who.specs.ReachAny.{IsReachedByAny}
 use Rattle.mq_ask_who.proofs.reach_any.show_reach_any.Goals as goal
@@ -16,3 +17,12 @@ returns-clause-ok g c =
       shown = c.outcome_of-outcome.ensures rules found.rows user c.args.wanted.now found.shown;
     } in
     IfOk-weaker c.print_outcome.result _ _ (λ shown e. rw e is) c.print_outcome.ensures.ok
+
+pub returns-clause-limited : goal.returns-clause-limited
+returns-clause-limited g c =
+    on_ok_weaker c.print_outcome.result
+    (λ written. λ rules words. (
+      string_bytes c.add_who_limit.new.text,
+      written,
+      (string_bytes c.in_ok-text.text, c.in_ok-add_who_limit.ensures.words rules words),
+    )) c.print_outcome.ensures.printed

@@ -1,6 +1,7 @@
 use Rattle.std.specs.Option.{option_copied}
 use Rattle.std.proofs.Common.{List, subst, sym, true, ap, ◌∙◌, ◌≡◌, Ok}
-use Rattle.std.proofs.lemmas.Result.{IfOk-weaker}
+use Rattle.std.proofs.Common.{string_bytes}
+use Rattle.std.proofs.lemmas.Result.{IfOk-weaker, on_ok_weaker}
 use Rattle.mq_acl.specs.Rows.{AclRow}
 use Rattle.mq_acl.specs.Views.{row_views}
 use Rattle.mq_differences.specs.declared.difference.Difference.{Difference}
@@ -31,3 +32,12 @@ returns-clause-ok g c =
           (sym c.deref-2.ensures.value) found.granted) users;
     } in
     IfOk-weaker c.print_outcome.result _ _ (λ shown e. rw e is) c.print_outcome.ensures.ok
+
+pub returns-clause-limited : goal.returns-clause-limited
+returns-clause-limited g c =
+    on_ok_weaker c.print_outcome.result
+    (λ written. λ rules words. (
+      string_bytes c.add_who_limit.new.text,
+      written,
+      (string_bytes c.in_ok-text.text, c.in_ok-add_who_limit.ensures.words rules words),
+    )) c.print_outcome.ensures.printed
