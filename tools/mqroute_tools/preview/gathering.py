@@ -7,7 +7,7 @@ from pathlib import Path
 
 from ..common.exit_status import Fault
 from ..common.files import at
-from ..common.messages import counted, named, note, say
+from ..common.messages import counted, named, say
 from ..common.programs import output_of
 from ..common.progress import Progress
 from ..common.second_process import meanwhile
@@ -250,8 +250,6 @@ def asked_first(lists: Lists, steps: Steps) -> Answers:
     steps.next()
     remarks = list(lists.new_remarks())
     steps.clear()
-    for one in notes:
-        note(one)
     return Answers(rights, not_asked, notes, remarks, [])
 
 

@@ -13,9 +13,9 @@ from .findings import (
     Carried, Cause, Deciding, Preview, RefusedRow, Remark, Right, Subscription, UserRow)
 from .gathered_topics import Topics
 from .words import (
-    AWAY, CARRIED, NO_LINE, NO_RULE, NO_TOPIC, NO_USE, NOT_ASKED, RETAINED, changes, client_of,
-    concerned, may, refusals, scope_of, summary, topic_count, tried, unused, used, verb, waits,
-    whom)
+    AWAY, CARRIED, LIMITED, NO_LINE, NO_RULE, NO_TOPIC, NO_USE, NOT_ASKED, RETAINED, changes,
+    client_of, concerned, may, refusals, scope_of, summary, topic_count, tried, unused, used, verb,
+    waits, whom)
 
 ROWS = 20  # of each section
 CAUSES, TOPICS = 6, 4  # of each row
@@ -52,6 +52,7 @@ class Report:
             (f"Newly allowed, {NO_TOPIC}", self.first(unused(found.granted), self.right)),
             (f"No longer allowed, {NO_TOPIC}", self.first(unused(found.taken), self.right)),
             (NOT_ASKED, self.first(found.not_asked, self.not_asked)),
+            (LIMITED, self.first(found.notes, self.limit)),
             ("Subscriptions that can receive nothing any more",
              self.first(found.subscriptions, self.subscription)),
             (CARRIED, self.first(found.carried, self.carried)),
@@ -80,6 +81,9 @@ class Report:
 
     def not_asked(self, user: str) -> list[str]:
         return [f"  user {shown(user)}"]
+
+    def limit(self, noted: str) -> list[str]:
+        return self.out.wrapped(shown(noted.removeprefix("mqroute-acl: ")), "  ", "    ")
 
     def first(self, rows: list[Row], shows: Callable[[Row], Iterable[str]]) -> Iterator[str]:
         for row in rows[:ROWS]:

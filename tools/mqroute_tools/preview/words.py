@@ -17,6 +17,7 @@ RETAINED = "Retained under old names when the script ends"
 AWAY = "Away when the script ends, with subscriptions under old names"
 NO_TOPIC = "on names that no topic of the script has"
 NO_USE = "if nobody uses them, the plan can say so:"
+LIMITED = "Of whom the rights are known"
 NOT_ASKED = "Users that a line names and whose rights aren't known (their names hold /, + or #)"
 OTHERWISE = "another QoS, RETAIN flag, payload or expiry"
 
