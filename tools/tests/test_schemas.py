@@ -4,51 +4,13 @@ import json
 import unittest
 from typing import Any
 
+from schema_rules import is_valid
 from worked import TOP, answers, invalid_lines, scripts, wants_program
 from mqroute_tools.script.commands import COMMANDS, Field, is_blank
 from mqroute_tools.script.strict_json import NoJson, read
 
 COMMAND, ANSWER = (json.loads((TOP / "schemas" / f"{name}.schema.json").read_text("utf-8"))
                    for name in ("command", "answer"))
-KINDS = {"object": dict, "array": list, "string": str, "boolean": bool, "integer": int}
-NOTES = {"$schema", "title", "description"}
-RULES = {  # a keyword, and whether a value of the kind that it speaks of meets it
-    "type": lambda value, rule, _: is_kind(value, rule),
-    "const": lambda value, rule, _: same(value, rule),
-    "enum": lambda value, rule, _: any(same(value, one) for one in rule),
-    "minimum": lambda value, rule, _: not isinstance(value, int) or value >= rule,
-    "maximum": lambda value, rule, _: not isinstance(value, int) or value <= rule,
-    "minLength": lambda value, rule, _: not isinstance(value, str) or len(value) >= rule,
-    "minItems": lambda value, rule, _: not isinstance(value, list) or len(value) >= rule,
-    "items": lambda value, rule, _: (
-        not isinstance(value, list) or all(is_valid(one, rule) for one in value)),
-    "required": lambda value, rule, _: (
-        not isinstance(value, dict) or all(name in value for name in rule)),
-    "properties": lambda value, rule, _: (
-        not isinstance(value, dict)
-        or all(is_valid(value[name], rule[name]) for name in rule if name in value)),
-    "additionalProperties": lambda value, rule, schema: (
-        rule or not isinstance(value, dict) or set(value) <= set(schema["properties"])),
-    "dependentRequired": lambda value, rule, _: (
-        not isinstance(value, dict)
-        or all(set(rule[name]) <= set(value) for name in rule if name in value)),
-    "oneOf": lambda value, rule, _: sum(is_valid(value, one) for one in rule) == 1,
-}
-
-
-def is_kind(value: Any, name: str) -> bool:
-    """Python counts true and false as whole numbers, too."""
-    return isinstance(value, KINDS[name]) and (name == "boolean" or not isinstance(value, bool))
-
-
-def same(value: Any, other: Any) -> bool:
-    return type(value) is type(other) and value == other
-
-
-def is_valid(value: Any, schema: dict[str, Any]) -> bool:
-    """By the keywords that the schemas use; another one is an error."""
-    return all(
-        RULES[word](value, rule, schema) for word, rule in schema.items() if word not in NOTES)
 
 
 def is_command(line: bytes) -> bool:
