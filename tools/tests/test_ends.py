@@ -1,8 +1,11 @@
-"""Whatever goes wrong: one line on standard error and status 2, never a traceback."""
+"""Whatever goes wrong: one line on standard error and status 2, or 3 where the machine is at fault,
+never a traceback. A reader that goes away is nothing wrong."""
+import errno
 import gzip
 import json
 import os
 import resource
+import shutil
 import subprocess
 import sys
 import tempfile
@@ -12,13 +15,14 @@ from pathlib import Path
 
 from mosquitto import PAHO
 from test_files import AFTER, BEFORE, LOG, SCRIPT
-from worked import HERE, TOP
-from mqroute_tools.common import exit_status, files
+from worked import HERE, PROGRAM, TOP
+from mqroute_tools.common import exit_status, files, programs
 
 DIGITS = "1" * 5000  # more than Python makes a number of
 TOOLS = {"check": ["script"], "log_to_script": ["log"], "compare_log": ["log", "before"],
          "who_loses": ["script", "before", "after"], "why": ["script", "2"],
-         "preview": ["list", "list", "script"], "plan": ["check", "plan"]}
+         "preview": ["list", "list", "script"], "plan": ["name", "plan", "a"]}
+WITHOUT_OUTPUT = ("check", "compare_log")  # by these words
 COPY = {"client": "a\"", "filter": "x", "line": 2, "payload": "", "qos": 0, "retain": False,
         "topic": "x"}
 
@@ -85,11 +89,42 @@ class Streams(Case):
     def test_a_full_disk(self):
         full = "No space left on device"
         for tool, words in TOOLS.items():
-            if tool in ("check", "compare_log"):  # which print nothing here
+            if tool in WITHOUT_OUTPUT or not PROGRAM.exists():
                 words = ["--help"]
             status, said = self.closed(tool, words, "> /dev/full")
             with self.subTest(tool):
-                self.assertEqual((status, said.split("\n")[-2]), (2, f"{tool}: {full}"))
+                self.assertEqual((status, said.split("\n")[-2]), (3, f"{tool}: {full}"))
+
+    def test_a_reader_that_goes_away(self):
+        """Nothing is said, and the status is that of a program that SIGPIPE ends."""
+        for tool, words in [*TOOLS.items(), *((tool, ["--help"]) for tool in TOOLS)]:
+            if tool in WITHOUT_OUTPUT or not PROGRAM.exists():
+                words = ["--help"]
+            reading, writing = os.pipe()
+            os.close(reading)
+            with self.subTest(tool, words=words), open(writing, "wb") as pipe:
+                done = self.run_tool(tool, *words, stdout=pipe)
+                self.assertEqual((done.returncode, done.stderr), (141, ""))
+
+    @unittest.skipUnless(shutil.which("bash"), "there is no bash")
+    def test_head(self):
+        """Behind a pipe that holds less than the tool has to write."""
+        self.write("faulty", '{"do":"connect"}\n' * 20_000)
+        command = '"$0" "$1" faulty | head -n 1; echo "${PIPESTATUS[@]}"'
+        done = subprocess.run(["bash", "-c", command, sys.executable, HERE / "check.py"],
+                              cwd=self.folder, capture_output=True, text=True)
+        self.assertEqual(done.stdout, 'faulty:1: connect needs the field "client"\n141 0\n')
+        self.assertEqual(done.stderr, "")
+
+    def test_a_pipe_to_somewhere_else(self):
+        """That it broke is said: somebody still reads standard output."""
+        done = subprocess.run(
+            [sys.executable, "-c", "from mqroute_tools.common import exit_status\n"
+             "def work(): raise BrokenPipeError(32, 'Broken pipe')\n"
+             "raise SystemExit(exit_status.run(work))"],
+            env=os.environ | {"PYTHONPATH": str(HERE)}, capture_output=True, text=True)
+        self.assertEqual((done.returncode, done.stdout), (2, ""))
+        self.assertTrue(done.stderr.endswith("Broken pipe\n"), done.stderr)
 
 
 class Endless(Case):
@@ -130,18 +165,25 @@ class Endless(Case):
                 self.assertEqual((done.returncode, done.stderr.count("\n")), (2, 1), done.stderr)
 
     def test_exceptions(self):
-        """One that nobody foresaw is said too, with its place."""
-        wanted = {MemoryError(): "out of memory",
-                  KeyError("payload"): "a fault of this tool at test_ends.py:",
-                  RecursionError("deep"): "a fault of this tool at test_ends.py:",
-                  OSError(5, "Input/output error", "x"): "x: Input/output error",
-                  exit_status.Fault("as it is"): "as it is"}
-        for fault, said in wanted.items():
+        """One that nobody foresaw is said too, with its place. What the machine is at fault of has
+        a status of its own, also below what is said of it."""
+        full = exit_status.Fault("out: nothing is written")
+        full.__cause__ = OSError(errno.ENOSPC, "No space left on device")
+        wanted = {MemoryError(): (3, "out of memory"),
+                  KeyError("payload"): (2, "a fault of this tool at test_ends.py:"),
+                  RecursionError("deep"): (2, "a fault of this tool at test_ends.py:"),
+                  OSError(errno.EIO, "Input/output error", "x"): (3, "x: Input/output error"),
+                  OSError(errno.ENOENT, "No such file", "x"): (2, "x: No such file"), full: (
+                      3, "out: nothing is written"),
+                  programs.no_answer("mqroute", 3, "memory"): (3, "memory"),
+                  programs.no_answer("mqroute", 2, ""): (2, "mqroute ended with status 2"),
+                  exit_status.Fault("as it is"): (2, "as it is")}
+        for fault, (status, said) in wanted.items():
             def work() -> int:
                 raise fault
             with (self.subTest(said), unittest.mock.patch.object(exit_status, "say") as say,
                   unittest.mock.patch.object(exit_status, "discard")):
-                self.assertEqual(exit_status.run(work), 2)
+                self.assertEqual(exit_status.run(work), status)
                 self.assertTrue(say.call_args[0][0].startswith(said), say.call_args)
 
 

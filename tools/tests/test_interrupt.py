@@ -236,7 +236,7 @@ class Searching(unittest.TestCase):
                 raise KeyboardInterrupt
             return all_of(script)
         one.all_of = stopped
-        options = argparse.Namespace(save=None, seed=1, only=None, scripts=None, json=False)
+        options = argparse.Namespace(save=None, seed=1, number=None, count=None, json=False)
         with (contextlib.redirect_stdout(io.StringIO()) as out,
               contextlib.redirect_stderr(io.StringIO()) as shown,
               self.assertRaises(KeyboardInterrupt)):

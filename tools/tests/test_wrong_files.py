@@ -105,6 +105,8 @@ class Scripts(Case):
         done = self.run_tool("check", "wrong")
         self.assertEqual((done.returncode, done.stderr.count("\n")), (2, 1))
         self.assertIn(f"check: wrong: {said}", done.stderr)
+        if "JSON" not in said:
+            self.assertEqual(done.stdout, "")
 
     def test_no_command(self):
         lacks = "no line is a command: "
@@ -141,9 +143,23 @@ class Check(Case):
         done = self.run_tool("check", "array")
         self.assertEqual((done.returncode, done.stdout.count("array:")), (1, 20))
         self.assertEqual(done.stdout.splitlines()[-1], "and 32 more")
+        self.write("array", ARRAY)
+        done = self.run_tool("check", "array")
+        self.assertEqual((done.returncode, done.stdout.count("array:")), (2, 20))
         self.write("script", SCRIPT * 50 + "no json\n" * 60)
         done = self.run_tool("check", "script")
         self.assertEqual((done.returncode, done.stdout.count("script:")), (1, 60))
+
+    def test_another_file(self):
+        """What it is, and nothing else; of a script without a right command its faults too."""
+        self.write("log", A_LOG * 50)
+        done = self.run_tool("check", "log")
+        self.refused(done, "check: log: no line is a command: looks like a mosquitto log: ")
+        self.write("script", '{"do":"conect","client":"a"}\n')
+        done = self.run_tool("check", "script")
+        said = 'script:1: there is no command "conect" (connect?)\n'
+        self.assertEqual((done.returncode, done.stdout), (2, said))
+        self.assertRegex(done.stderr, r"\Acheck: script: no line is a command: .*\n\Z")
 
 
 if __name__ == "__main__":

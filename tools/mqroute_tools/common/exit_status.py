@@ -1,5 +1,8 @@
 """How the tools end: their status, and one line of text where they can't do their work."""
+import errno
 import os
+import select
+import signal
 import sys
 from collections.abc import Callable
 
@@ -7,10 +10,17 @@ from . import interrupt
 from .messages import in_words, say
 
 FAILED = 2  # 0 and 1 are each tool's own
+BROKEN = 3  # a fault of the machine, which no other command line would mend
+OF_MACHINE = {errno.ENOSPC, errno.EDQUOT, errno.EFBIG, errno.EIO, errno.ENOMEM, errno.EMFILE,
+              errno.ENFILE}
 
 
 class Fault(Exception):
     """What is said to the user before exit status 2."""
+
+
+class MachineFault(Fault):
+    """The same before exit status 3."""
 
 
 class UsageFault(Exception):
@@ -34,7 +44,22 @@ def refuse_closed_output() -> None:
 def failed(fault: Exception) -> int:
     discard(1)
     say(in_words(fault))
-    return FAILED
+    return BROKEN if is_of_machine(fault) else FAILED
+
+
+def is_of_machine(fault: BaseException | None) -> bool:
+    """Whether it is one of the machine, or was raised from one."""
+    return fault is not None and (
+        isinstance(fault, (MachineFault, MemoryError))
+        or (isinstance(fault, OSError) and fault.errno in OF_MACHINE)
+        or is_of_machine(fault.__cause__))
+
+
+def reader_has_gone() -> bool:
+    """Whether nobody reads standard output any more, as behind `head`."""
+    asked = select.poll()
+    asked.register(1, select.POLLOUT)
+    return any(event & select.POLLERR for _, event in asked.poll(0))
 
 
 def done(work: Callable[[], int]) -> int:
@@ -46,7 +71,9 @@ def done(work: Callable[[], int]) -> int:
 
 
 def run(work: Callable[[], int]) -> int:
-    """The status that `work` gives; where it raises anything, 2 after one line that says what."""
+    """The status that `work` gives; where it raises anything, 2 or 3 after one line that says what.
+    Where the reader of standard output has gone, as `head` goes, that of a program that SIGPIPE
+    ends, and no line."""
     interrupt.heed()
     try:
         refuse_closed_output()
@@ -56,10 +83,10 @@ def run(work: Callable[[], int]) -> int:
         discard(1)
         say("stopped")
         return stopped.status
-    except BrokenPipeError:  # the reader of standard output has gone, as `head` goes
-        discard(1)
-        return FAILED
     except Exception as fault:
+        if isinstance(fault, BrokenPipeError) and reader_has_gone():
+            discard(1)
+            return interrupt.status_of(signal.SIGPIPE)
         return failed(fault)
     finally:
         interrupt.leave()

@@ -5,7 +5,7 @@ import subprocess
 from collections.abc import Callable, Container
 from pathlib import Path
 
-from .exit_status import Fault
+from .exit_status import BROKEN, Fault, MachineFault
 from .texts import lines
 
 HERE = Path(__file__).resolve()
@@ -33,6 +33,12 @@ def on_one_line(said: bytes) -> str:
     return "; ".join(lines(said.decode("utf-8", "replace").strip()))
 
 
+def no_answer(program: str, status: int, said: str) -> Fault:
+    """Of a program that ended with another status than that of an answer."""
+    kind = MachineFault if status == BROKEN else Fault
+    return kind(said or f"{program} ended with status {status}")
+
+
 def output_of(words: list[str], named: Callable[[str], str] = str,
               statuses: Container[int] = (0, 1), out: int = subprocess.PIPE,
               given: bytes | None = None) -> subprocess.CompletedProcess[bytes]:
@@ -44,6 +50,5 @@ def output_of(words: list[str], named: Callable[[str], str] = str,
     except OSError as fault:
         raise Fault(f"cannot run {words[0]}: {fault.strerror}") from fault
     if done.returncode not in statuses:
-        said = named(on_one_line(done.stderr))
-        raise Fault(said or f"{words[0]} ended with status {done.returncode}")
+        raise no_answer(words[0], done.returncode, named(on_one_line(done.stderr)))
     return done

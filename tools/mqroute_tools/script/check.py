@@ -10,10 +10,12 @@ import sys
 
 from ..common.files import STDIN, at, keep_apart, open_input
 from .commands import Seen, read_line
+from .file_kinds import kind
 from .output import Command
 from .text_faults import shown, text_faults
 
 SHOWN = 20  # faulty lines of a file most of whose lines are invalid
+LIKE_SCRIPTS = ("", "a script", "JSON")  # the kinds of files whose faults are shown
 
 
 class Subscribed:
@@ -44,11 +46,13 @@ class Subscribed:
 
 
 class Check:
-    """Prints what is wrong, of a file that isn't a script only in the first lines."""
+    """Prints what is wrong, of a file that isn't a script only in the first lines; nothing of one
+    that is of another kind."""
 
     def __init__(self, name: str) -> None:
         self.name, self.seen, self.subscribed = name, Seen(name), Subscribed()
         self.right = self.wrong = self.hidden = 0
+        self.held: list[bytes] = []  # until there is a command
 
     def line(self, number: int, line: bytes) -> None:
         if not self.seen.has_command:
@@ -66,11 +70,20 @@ class Check:
             faults = [remark] if remark else []
         for fault in faults:
             listed = f"{at(self.name, number)}: {fault}\n"
-            sys.stdout.buffer.write(listed.encode("utf-8", "backslashreplace"))
+            self.held.append(listed.encode("utf-8", "backslashreplace"))
+        if self.seen.has_command:
+            self.write()
+
+    def write(self) -> None:
+        sys.stdout.buffer.writelines(self.held)
+        self.held.clear()
 
     def end(self) -> int:
+        if kind(self.seen.head) not in LIKE_SCRIPTS:
+            self.seen.refuse()
         if self.hidden:
-            sys.stdout.buffer.write(f"and {self.hidden} more\n".encode())
+            self.held.append(f"and {self.hidden} more\n".encode())
+        self.write()
         sys.stdout.flush()
         self.seen.refuse()
         return 1 if self.wrong else 0
@@ -79,7 +92,7 @@ class Check:
 def add_arguments(parser: argparse.ArgumentParser) -> None:
     parser.description = ("Names what is wrong in each line of a script that mqroute refuses "
                           "whatever the lines before it are.")
-    parser.add_argument("script", nargs="?", default=STDIN,
+    parser.add_argument("script", metavar="SCRIPT", nargs="?", default=STDIN,
                         help="standard input if it is absent or -")
 
 

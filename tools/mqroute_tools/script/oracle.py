@@ -10,7 +10,7 @@ from pathlib import Path
 from typing import IO
 
 from ..common.exit_status import Fault
-from ..common.programs import existing_program, find_program, on_one_line
+from ..common.programs import existing_program, find_program, no_answer, on_one_line
 from ..plain.reader import Reader
 from ..plain.world import FaultyList
 from .output import Answer, Block, Command, blocks_of
@@ -65,8 +65,7 @@ def each_answer(words: list[str], script: Iterable[bytes], first: int = 1) -> It
         except OSError as fault:
             raise Fault(f"cannot run {words[0]}: {fault.strerror}") from fault
         if done.returncode not in (0, 1):
-            raise Fault(on_one_line(done.stderr)
-                        or f"mqroute ended with status {done.returncode}")
+            raise no_answer("mqroute", done.returncode, on_one_line(done.stderr))
         written.seek(0)
         # no text in an answer has these bytes: its quotes are escaped
         written.seek(place_of(written, b'"line":%d,' % first) if first > 1 else 0)
