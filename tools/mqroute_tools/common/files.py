@@ -90,8 +90,17 @@ def standard_input() -> io.BufferedReader:
 def open_input(name: str) -> io.BufferedReader:
     """A file, packed by gzip or not; `-` is standard input."""
     plain = standard_input() if name == STDIN else open(name, "rb")
-    is_packed = plain.peek(len(GZIP))[:len(GZIP)] == GZIP
-    return io.BufferedReader((Unpacked if is_packed else Lines)(plain, name), PIECE)
+    return io.BufferedReader((Unpacked if begins_packed(plain) else Lines)(plain, name), PIECE)
+
+
+def begins_packed(stream: io.BufferedReader) -> bool:
+    return stream.peek(len(GZIP))[:len(GZIP)] == GZIP
+
+
+def is_packed(path: str) -> bool:
+    """Whether gzip packed the file, so that mqroute and mqroute-acl can't read it."""
+    with open(path, "rb") as stream:
+        return begins_packed(stream)
 
 
 def open_text(name: str) -> TextIO:

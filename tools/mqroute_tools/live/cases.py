@@ -6,7 +6,7 @@ from pathlib import Path
 from typing import Any
 
 from ..common.exit_status import Fault
-from ..common.files import at
+from ..common.files import at, open_input
 from ..common.texts import escaped
 from ..script.commands import faults
 from ..script.output import Block, Command, blocks
@@ -60,10 +60,10 @@ class Section:
 
 def read_commands(file: Path) -> list[Command]:
     """The commands of a script in which no line is blank."""
-    with open(file, "rb") as lines:
+    with open_input(str(file)) as lines:
         for number, fault in faults(lines):
             raise Fault(f"{at(str(file), number)}: {fault}")
-    lines_of = file.read_text("utf-8").removesuffix("\n").split("\n")
+    lines_of = read_utf8(file).removesuffix("\n").split("\n")
     for number, line in enumerate(lines_of, 1):
         if not line.strip():
             raise Fault(f"{at(str(file), number)}: blank")

@@ -1,8 +1,9 @@
 """Files of text that stand beside a script."""
 from pathlib import Path
 
-from ..common.files import decoded
+from ..common.files import decoded, open_input
 
 
 def read_utf8(file: Path) -> str:
-    return decoded(file.read_bytes(), str(file))
+    with open_input(str(file)) as stream:
+        return decoded(stream.read(), str(file))

@@ -1,9 +1,8 @@
 """The lines of an access list of which mosquitto takes each, as it reads them."""
 import re
 from dataclasses import dataclass
-from pathlib import Path
 
-from ..common.files import decoded, plain_file
+from ..common.files import decoded, open_input, plain_file
 from ..script.access_list import Line
 
 ACCESSES = ("read", "write", "readwrite", "deny")
@@ -32,7 +31,8 @@ class Row:
 def rows_of(path: str, name: str) -> list[Row]:
     """Of the list in this file, which is shown under the name."""
     found, user = [], None
-    text = decoded(Path(path).read_bytes(), name)
+    with open_input(path) as stream:
+        text = decoded(stream.read(), name)
     for number, whole in enumerate(text.split("\n"), 1):
         line = whole.rstrip(BLANKS)
         word, _, rest = line.lstrip(" ").partition(" ")

@@ -10,7 +10,7 @@ from typing import Any, NamedTuple
 
 from ..common import temporary
 from ..common.exit_status import Fault
-from ..common.files import STDIN, open_input, plain_file
+from ..common.files import STDIN, is_packed, open_input, plain_file
 from ..common.messages import counted, named
 from ..common.programs import find_program, output_of
 from ..common.texts import escaped, json_text, lines
@@ -74,11 +74,11 @@ class AccessList:
         self.name, self.path, self.rules = name, name, rules
         self.program = find_program("MQROUTE_ACL_PROGRAM", "mqroute-acl")
         self.options = [f"--rules={rules}"]
-        is_file = text is None and name != STDIN and plain_file(name)
+        self.is_file = text is None and name != STDIN and plain_file(name) is not None
         if text is None:
             with open_input(name) as stream:
                 text = stream.read()
-        if not is_file:  # the program reads it each time
+        if not self.is_file or is_packed(name):  # the program reads it each time
             self.copy = temporary.file(self)
             self.copy.write(text)
             self.copy.flush()
