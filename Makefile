@@ -19,8 +19,8 @@ PREFIX ?= /usr/local
 INSTALLED = $(DESTDIR)$(PREFIX)
 PYTHON ?= python3
 
-# The tools beside real brokers, each installed as mqroute-NAME, tools.py with all of them as subcommands; they import what
-# stands in tools/mqroute_tools.
+# The tools beside real brokers, each installed as mqroute-NAME, tools.py with all of them as subcommands, and beside them
+# mqr, which has the programs too; they import what stands in tools/mqroute_tools.
 TOOLS = log_to_script who_loses why preview plan replay compare_log check search tools
 TOOL_NAMES = $(subst _,-,$(TOOLS:%=mqroute-%))
 TOOL_MODULES = $(patsubst tools/%,%,$(wildcard tools/mqroute_tools/*.py tools/mqroute_tools/*/*.py))
@@ -76,9 +76,10 @@ install: programs
 	install -D -m 755 bin/mqroute $(INSTALLED)/bin/mqroute
 	install -m 755 bin/mqroute-acl $(INSTALLED)/bin/mqroute-acl
 	install -d $(INSTALLED)/share/man/man1
-	install -m 644 docs/mqroute.1 docs/mqroute-acl.1 $(TOOL_NAMES:%=docs/%.1) $(INSTALLED)/share/man/man1
+	install -m 644 docs/mqr.1 docs/mqroute.1 docs/mqroute-acl.1 $(TOOL_NAMES:%=docs/%.1) $(INSTALLED)/share/man/man1
 	install -D -m 644 docs/mqroute.7 $(INSTALLED)/share/man/man7/mqroute.7
 	install -D -m 644 docs/mqroute.bash-completion $(COMPLETIONS)/mqroute
+	install -m 644 docs/mqr.bash-completion $(COMPLETIONS)/mqr
 	install -m 644 docs/mqroute-acl.bash-completion $(COMPLETIONS)/mqroute-acl
 	install -d $(BROKERS:%=$(INSTALLED)/share/mqroute/differences/%) $(INSTALLED)/share/mqroute/schemas
 	for module in $(TOOL_MODULES); do \
@@ -87,7 +88,8 @@ install: programs
 	{ PYTHONPATH=tools python3 -B -m mqroute_tools.common.version 2> /dev/null || echo unknown; } > $(INSTALLED)/lib/mqroute/mqroute_tools/VERSION
 	chmod 644 $(INSTALLED)/lib/mqroute/mqroute_tools/VERSION
 	install -m 644 tools/mqroute.py tools/mqroute_strategies.py $(INSTALLED)/lib/mqroute
-	install -m 755 $(TOOLS:%=tools/%.py) $(INSTALLED)/lib/mqroute
+	install -m 755 tools/mqr.py $(TOOLS:%=tools/%.py) $(INSTALLED)/lib/mqroute
+	ln -sf ../lib/mqroute/mqr.py $(INSTALLED)/bin/mqr
 	install -m 644 brokers/differences/*.* $(INSTALLED)/share/mqroute/differences
 	for broker in $(BROKERS); do \
 	    install -m 644 brokers/differences/$$broker/* $(INSTALLED)/share/mqroute/differences/$$broker || exit 1; \
@@ -106,7 +108,7 @@ install: programs
 	fi
 
 uninstall:
-	for name in mqroute mqroute-acl $(TOOL_NAMES); do \
+	for name in mqr mqroute mqroute-acl $(TOOL_NAMES); do \
 	    rm -f $(INSTALLED)/bin/$$name $(INSTALLED)/share/man/man1/$$name.1 $(COMPLETIONS)/$$name; \
 	done
 	rm -f $(INSTALLED)/share/man/man7/mqroute.7

@@ -81,7 +81,8 @@ exec(compile(tool.read_text("utf-8"), str(tool), "exec"))
 def put_tools():
     for path in sorted((TOP / "tools").glob("*.py")):
         if os.access(path, os.X_OK):
-            named = BIN / f"mqroute-{path.stem.replace('_', '-')}"
+            name = path.stem.replace("_", "-")
+            named = BIN / (name if name == "mqr" else f"mqroute-{name}")
             named.unlink(missing_ok=True)
             named.write_text(TOOL.format(name=path.name), encoding="utf-8")
             named.chmod(0o755)

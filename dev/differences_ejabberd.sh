@@ -28,5 +28,5 @@ begin() {
     await test -f "$work/ready"
 }
 
-compare_each "$listening" "--username u@localhost --password pw" "$@"
+compare_each "$listening" "--user u@localhost --password pw" "$@"
 exit $status

@@ -73,7 +73,8 @@ Description: shows which MQTT clients would receive what
  and names the lines that decide.
  .
  Tools make such a script of a mosquitto log, list who loses what under a new
- access list, and compare a live broker with mqroute.
+ access list, and compare a live broker with mqroute. mqr has all of these as
+ subcommands.
 END
 # Where root runs a tool, Python keeps the modules compiled beside them, in files that dpkg doesn't know. They go before the
 # package does, and before a newer one comes. By find and not by py3clean: python3 may be gone by then, or never have been there.

@@ -107,7 +107,8 @@ def faults_of_claims(rules, run, folder, chance, random_filter, rows, asked_abou
     shown = shown[:len(claims)]
     hold = sum(each["holds"] for each in shown)
     if (counts != [{"expectations": len(claims), "hold": hold}] or done.stderr
-            or limits != limits_of(rules, True) or done.returncode != (0 if hold == len(claims) else 1)):
+            or limits != limits_of(rules, True)
+            or done.returncode != (0 if hold == len(claims) else 1)):
         yield f"test: status {done.returncode}: {done.stdout}{done.stderr}{lines}"
         return
     for claim, each in zip(claims, shown):

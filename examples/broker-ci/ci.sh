@@ -20,7 +20,7 @@ mkdir -p "$out" "$known/corpus" "$known/search"
 mqroute-replay --port "$port" --all "$corpus" --start "$1" --known "$known/corpus" \
     --save "$out/corpus" --junit "$out/corpus.xml"
 cases=$?
-mqroute-search --port "$port" --start "$1" --standard --scripts "$scripts" --seed "$seed" --minutes 30 --known "$known/search" \
+mqroute-search --port "$port" --start "$1" --standard --count "$scripts" --seed "$seed" --minutes 30 --known "$known/search" \
     --save "$out/search" --junit "$out/search.xml"
 found=$?
 [ $cases -gt $found ] || cases=$found

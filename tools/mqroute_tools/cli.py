@@ -24,10 +24,11 @@ class Entry(NamedTuple):
     nothing: str  # what status 0 says
     something: str  # and status 1
 
-    def closing(self, name: str) -> str:
-        """Of the help."""
-        return (f"\nexample: mqroute-{name} {self.example}\n"
-                f"status: 0 {self.nothing}; 1 {self.something}; 2 misuse or no answer\n")
+    def closing(self, command: str) -> str:
+        """Of the help of what is typed so."""
+        return (f"\nexample: {command} {self.example}\n"
+                f"status: 0 {self.nothing}; 1 {self.something}; 2 misuse or no answer; "
+                "3 a fault of the machine\n")
 
 
 SUBCOMMANDS = {
@@ -37,14 +38,14 @@ SUBCOMMANDS = {
         "something isn't, or a copy of the broker isn't explained"),
     "who-loses": Entry(
         "losses.who_loses", "shows who loses which copies between two runs of a script",
-        "--by user day.jsonl before.out after.out", "nothing changes", "something does"),
+        "--by user day.jsonl old.out new.out", "nothing changes", "something does"),
     "why": Entry(
         "why.why", "shows why a client was sent a message of a script, or wasn't",
         "--acl-file acl day.jsonl 12 dashboard",
         "the client was sent the message, or no client was given", "it wasn't"),
     "preview": Entry(
         "preview.preview", "shows what a proposed access list would change",
-        "current.acl proposed.acl mosquitto.log", "nothing changes", "something does"),
+        "old.acl new.acl mosquitto.log", "nothing changes", "something does"),
     "plan": Entry(
         "plan.plan", "shows what becomes of lists and scripts if topics are renamed",
         "check --script day.jsonl plan", "nothing needs a look", "something does"),
@@ -59,7 +60,7 @@ SUBCOMMANDS = {
         "day.jsonl", "no line is wrong", "one is"),
     "search": Entry(
         "search.search", "searches for differences between a live broker and mqroute",
-        "--port 1883 --scripts 500", "nothing is found that isn't known", "something is"),
+        "--port 1883 --count 500", "nothing is found that isn't known", "something is"),
 }
 HELP = "help"
 
@@ -87,12 +88,13 @@ def run(name: str) -> int:
     interrupt.handle(interrupt.stop)
     from .common import exit_status
     from .common.arguments import Parser
+    from .common.messages import typed
     subcommand = cast(
         Subcommand, importlib.import_module(f".{SUBCOMMANDS[name].module}", __package__))
     parser = Parser()
     subcommand.add_arguments(parser)
     parser.add_version()
-    parser.closing = SUBCOMMANDS[name].closing(name)
+    parser.closing = SUBCOMMANDS[name].closing(typed(name))
 
     def work() -> int:
         options = parsed(parser)

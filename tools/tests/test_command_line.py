@@ -10,8 +10,10 @@ import unittest
 from pathlib import Path
 
 from worked import HERE, TOP
+from mqroute_tools import questions
 from mqroute_tools.cli import SUBCOMMANDS
 from mqroute_tools.common.arguments import Parser
+from mqroute_tools.common.messages import FOLDED
 from mqroute_tools.plan import plan
 
 ALL = [sys.executable, "-m", "mqroute_tools"]
@@ -65,22 +67,23 @@ class Names(unittest.TestCase):
         """An example that the tool takes, and its statuses as docs/reference/statuses.md has
         them."""
         page = (TOP / "docs/reference/statuses.md").read_text("utf-8")
-        rows = dict(re.findall(r"^\| `mqroute-([\w-]+)` \| (.*) \|$", page, re.M))
+        rows = dict(re.findall(r"^\| `mqr ([\w -]+)` \| (.*) \|$", page, re.M))
         for name, entry in SUBCOMMANDS.items():
             with self.subTest(name):
                 *_, example, statuses = said([*ALL, name, "--help"]).stdout.splitlines()
                 self.assertEqual(example, f"example: mqroute-{name} {entry.example}")
                 nothing, something = (re.split(r"[.:] ", cell)[0]
-                                      for cell in rows[name].split(" | "))
+                                      for cell in rows[FOLDED.get(name, name)].split(" | "))
                 self.assertEqual(
                     statuses,
-                    f"status: 0 {nothing}; 1 {something}; 2 misuse or no answer")
+                    f"status: 0 {nothing}; 1 {something}; 2 misuse or no answer; 3 a fault of the "
+                    "machine")
                 parser = Parser()
                 module = importlib.import_module(f"mqroute_tools.{entry.module}")
                 module.add_arguments(parser)
                 words = entry.example.partition(" > ")[0].split()
                 self.assertTrue(vars(parser.parse_args(words)))
-        self.assertEqual(rows["tools"], "as the subcommand | as the subcommand")
+        self.assertLessEqual({*questions.PASSED_ON, *questions.TOOLS}, {*rows})
         self.assertEqual(said([*ALL, "--help"]).stdout.splitlines()[-2:], [
             "example: mqroute-tools check day.jsonl",
             "status: as the subcommand; 2 if there is none of this name"])

@@ -64,7 +64,9 @@ class Tab(unittest.TestCase):
         for completion, command in (("mqroute", "mqroute"), ("mqroute", "mqroute --acl-file"),
                                     ("mqroute-acl", "mqroute-acl compare"),
                                     ("mqroute-tools", "mqroute-check"),
-                                    ("mqroute-tools", "mqroute-who-loses --acl-before")):
+                                    ("mqroute-tools", "mqroute-who-loses --old-acl-file"),
+                                    ("mqr", "mqr check"), ("mqr", "mqr preview --outputs"),
+                                    ("mqr", "mqr run --acl-file"), ("mqr", "mqr may")):
             more = command.split()[1:]
             for typed, name in (("ne\t", FILES[0]), ("new\\ li\t", FILES[0]),
                                 ('"new l\t', FILES[0]), ("no\tof\t", FILES[2]), ("a\t", FILES[3])):
@@ -92,6 +94,20 @@ class Tab(unittest.TestCase):
         self.assertEqual(self.words("mqroute-acl", "mqroute-acl rea\t"), ["reach"])
         self.assertEqual(self.words("mqroute-acl", "mqroute-acl why --user ne\t"),
                          ["why", "--user", "ne"])
+
+    def test_one_command(self):
+        """A subcommand, and what it has of the program or tool that it is passed on to."""
+        for typed, words in (("log\t", ["log-to-script"]), ("help ma\t", ["help", "may"]),
+                             ("compare --only ga\t", ["compare", "--only", "gained"]),
+                             ("may --ques\tne\t", ["may", "--questions", FILES[0]]),
+                             ("run --rules=mo\t", ["run", "--rules=mosquitto"]),
+                             ("plan scr\t--write\tne\t",
+                              ["plan", "script", "--write-old", FILES[0]]),
+                             ("search --cou\tne\t", ["search", "--count", "ne"]),
+                             ("preview --by us\t", ["preview", "--by", "user"]),
+                             ("--v\t", ["--version"])):
+            with self.subTest(typed):
+                self.assertEqual(self.words("mqr", f"mqr {typed}"), words)
 
 
 if __name__ == "__main__":

@@ -14,7 +14,7 @@ BELOW = {"common": set(), "conf": {"common"}, "plain": set(), "script": {"common
          "plan": {"common", "script"},
          "losses": {"common", "script", "plan"}, "why": {"common", "conf", "script", "log"},
          "preview": {"common", "script", "conf", "log", "plan", "losses"},
-         "live": {"common", "script", "conf"}, "search": {"common", "script", "live"}}
+         "live": {"common", "script", "conf", "log"}, "search": {"common", "script", "live"}}
 
 
 def imported(path: Path) -> Iterator[Path]:

@@ -15,8 +15,9 @@ from mqroute_tools.common.version import version
 
 # which make install needs
 BUILT = [TOP / f"crates/{name}/out/{name}" for name in ("mqroute", "mqroute_acl")]
-TOOLS = ("log_to_script", "who_loses", "why", "preview", "plan", "replay", "compare_log", "check",
-         "search", "tools")
+MQR = "mqr"
+TOOLS = (MQR, "log_to_script", "who_loses", "why", "preview", "plan", "replay", "compare_log",
+         "check", "search", "tools")
 # Tools with commands, each of which has a --help of its own.
 COMMANDS = {"plan": ("check", "name", "acl", "script", "retained", "compare")}
 SECTIONS = ["NAME", "SYNOPSIS", "DESCRIPTION", "OPTIONS", "EXIT STATUS", "EXAMPLES", "SEE ALSO"]
@@ -28,7 +29,12 @@ SEE_ALSO = {
 
 
 def installed_name(tool: str) -> str:
-    return "mqroute-" + tool.replace("_", "-")
+    return MQR if tool == MQR else "mqroute-" + tool.replace("_", "-")
+
+
+def completer(tool: str) -> str:
+    """The function that completes its options."""
+    return "_mqr" if tool == MQR else "_mqroute_tools"
 
 
 def page(tool: str) -> str:
@@ -62,7 +68,7 @@ class Pages(unittest.TestCase):
         for tool in TOOLS:
             with self.subTest(tool):
                 text, known = page(tool), options_of(tool)
-                described = options("\n".join(re.findall(r"^\.TP\n(\.BI? .*)$", text, re.M)))
+                described = options("\n".join(re.findall(r"^\.TP\n(\.BI? --.*)$", text, re.M)))
                 self.assertIn("--help", known)
                 self.assertEqual(described, known)
                 self.assertEqual(options(text.split(".SH SYNOPSIS")[1].split(".SH")[0]), known)
@@ -98,7 +104,7 @@ class Pages(unittest.TestCase):
         """It names each program and tool, above its SEE ALSO and in it."""
         text = (TOP / f"docs/{OVERVIEW}").read_text("utf-8").replace("\\-", "-")
         for part in text.split('.SH "SEE ALSO"\n'):
-            named = set(re.findall(r"^\.BR (mqroute\S*) \(1\)", part, re.M))
+            named = set(re.findall(r"^\.BR (mqr\S*) \(1\)", part, re.M))
             self.assertEqual(named, {*PROGRAMS, *map(installed_name, TOOLS)})
 
     def test_see_also(self):
@@ -111,7 +117,7 @@ class Pages(unittest.TestCase):
                 named = re.findall(r"^\.BR (\S+) \(\d\),?$", see, re.M)
                 spoken_of = set(re.findall(r"^\.BR (mqroute\S*) \(1\)", text, re.M))
                 wanted = spoken_of | SEE_ALSO.get(name, {"mqroute"})
-                wanted |= tools if name in PROGRAMS else set()
+                wanted |= tools - {MQR} if name in PROGRAMS else set()
                 self.assertLessEqual(wanted - {name}, set(named))
                 ours = [one for one in named if one.startswith("mqroute-")]
                 self.assertEqual(ours, sorted(ours))
@@ -206,6 +212,7 @@ class Installed(unittest.TestCase):
     def named_as_installed(self, folder: str) -> None:
         for words, said in (
                 (["mqroute-check", "/nowhere/script"], r"mqroute-check: .*/nowhere/script"),
+                (["mqr", "check", "/nowhere/script"], r"mqr check: .*/nowhere/script"),
                 (["mqroute-log-to-script", "/nowhere/log"],
                  r"mqroute-log-to-script: .*/nowhere/log"),
                 (["mqroute-who-loses", "one"],
@@ -217,7 +224,7 @@ class Installed(unittest.TestCase):
 
     def subcommands(self, folder: str) -> None:
         """Each link has the help that `mqroute-tools` gives."""
-        for name in map(installed_name, TOOLS[:-1]):
+        for name in map(installed_name, TOOLS[1:-1]):
             words = [f"{folder}/bin/mqroute-tools", name.removeprefix("mqroute-")]
             self.assertEqual(help_behind_name([f"{folder}/bin/{name}"], name),
                              help_behind_name(words, f"mqroute-tools {words[1]}"))
@@ -226,7 +233,7 @@ class Installed(unittest.TestCase):
         for tool in TOOLS:
             name = installed_name(tool)
             code = (f'. {folder}/share/bash-completion/completions/{name}; COMP_WORDS=({name} --); '
-                    f'COMP_CWORD=1; _mqroute_tools; echo "${{COMPREPLY[*]}}"')
+                    f'COMP_CWORD=1; {completer(tool)}; echo "${{COMPREPLY[*]}}"')
             done = subprocess.run(["bash", "-c", code], capture_output=True, text=True)
             self.assertEqual((set(done.stdout.split()), done.stderr), (options_of(tool), ""))
 

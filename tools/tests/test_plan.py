@@ -256,7 +256,7 @@ class Reading(Case):
         self.refused("--bridge, --no-bridge and --acl-file need --moved", "script", "plan",
                      "script.jsonl", "--no-bridge")
         self.refused("standard input can be read once", "compare", "-", "-", "script.jsonl")
-        self.refused("--old script.jsonl: it would overwrite script.jsonl", "script", "plan",
+        self.refused("--write-old script.jsonl: it would overwrite script.jsonl", "script", "plan",
                      "script.jsonl", "--old", "script.jsonl")
         self.refused("the following arguments are required: COMMAND")
 
@@ -482,7 +482,7 @@ billing           subscribes now to        site/a/hall-1/meters/heat  which was 
 class LossesRefused(Case):
     def test_usage(self):
         words = ["script.jsonl", "before", "after"]
-        for said, options in (("--plan and --new go together", ["--plan", "plan"]),
+        for said, options in (("--plan and --new-script go together", ["--plan", "plan"]),
                               ("--by can't be used with --plan",
                                ["--plan", "plan", "--new", "new", "--by", "user"])):
             self.refused(said, *options, *words, tool="who_loses.py")

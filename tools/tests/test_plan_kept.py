@@ -344,7 +344,7 @@ class Shown(Case):
         self.assertIn("1 message retained: 0 published", done.stderr)
 
     def test_refusals(self):
-        self.refused('a client "p" of its own: name another, by --client', "retained", "plan",
+        self.refused('a client "p" of its own: name another, by --mover', "retained", "plan",
                      "script.jsonl", "--client", "p")
         self.write("chain", "a -> b\nb -> c\n")
         self.refused("chain:1: a becomes b, which line 2 takes for an old topic", "retained",

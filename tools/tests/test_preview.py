@@ -301,7 +301,7 @@ class Files(Case):
                 done = self.shown(*self.LISTS, "-", stdin=stream).stdout
             self.assertIn("  hq loses all 2\n", done)
             self.assertIn("first at line 7 of the script, client hq-1\n", done)
-            self.assertNotIn("--keep", done)  # no script is made that could stay
+            self.assertNotIn("--save", done)  # no script is made that could stay
         done = self.shown("-", "new.acl", "script", input=CURRENT).stdout
         self.assertIn("        standard input:6  topic read plant/+/energy\n", done)
 
@@ -341,15 +341,15 @@ class Files(Case):
         log = RECORDED / "plain.log"
         lists = [RECORDED / "plain.acl", RECORDED / "proposed.acl"]
         done = self.shown(*lists, log).stdout
-        self.assertIn("\n\nwith --keep FOLDER the script stays", done)
+        self.assertIn("\n\nwith --save FOLDER the script stays", done)
         self.assertNotIn("mqroute-why", done)
-        done = self.shown(*lists, log, "--keep", "a/b")
+        done = self.shown(*lists, log, "--save", "a/b")
         self.assertIn(f"--acl-file {lists[1]} --rules own a/b/script.jsonl ", done.stdout)
         self.assertEqual(sorted(os.listdir(self.folder / "a/b")),
                          ["after", "before", "script.jsonl"])
         for name in ("script.jsonl", "before"):
             (self.folder / name).write_text("x")
-            self.refused(f"--keep .: {name} is there already", *lists, log, "--keep", ".")
+            self.refused(f"--save .: {name} is there already", *lists, log, "--keep", ".")
             self.assertEqual((self.folder / name).read_text(), "x")
             (self.folder / name).unlink()
 
@@ -360,7 +360,7 @@ class Files(Case):
                 ("--session-expiry needs a log", ["script", "--session-expiry", "0"]),
                 ("standard input can be read once", ["-", "--begin", "-"]),
                 ("--title needs --html", ["script", "--title", "x"]),
-                ("--html names a file that --keep writes",
+                ("--html names a file that --save writes",
                  ["script", "--html", "kept/after", "--keep", "kept"])):
             with self.subTest(said):
                 self.refused(f"error: {said}\n", *self.LISTS, *words)

@@ -259,7 +259,7 @@ class Settings(ConfCase):
         for words, said in (
                 (("--port", "1", "a", "b", "c"), "--port needs --conf"),
                 (("a", "b"),
-                 "needs CURRENT, PROPOSED, and a script or logs; or --conf and PROPOSED"),
+                 "needs OLD, NEW, and a script or logs; or --conf and NEW"),
                 (("--conf", "mosquitto.conf", "--rules", "own", "new.acl"),
                  "--conf goes by mosquitto's rules"),
                 (("--conf", "mosquitto.conf", "--plan", "p", "new.acl"),

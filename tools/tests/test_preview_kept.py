@@ -27,7 +27,7 @@ Retained under old names when the script ends
       its payload isn't known: it can be cleared, and not moved
   script:10  plc-1  plant/h1/state -> site/h1/machines/state
   They stay in the broker under their old names until they are cleared. Who subscribes to the new \
-names isn't sent them. With --keep FOLDER a script stays that moves them.
+names isn't sent them. With --save FOLDER a script stays that moves them.
   Not known: what the broker had before the first line of the script; 1 payload, of which the \
 script has the size alone; properties of MQTT 5 other than the expiry.
 
@@ -132,7 +132,7 @@ class Kept(Case):
         self.assertGreater(found["totals"]["renamed"], 5)
         self.assertEqual(found["totals"]["moved"], 0)
         self.assertEqual({one["payload"] for one in found["retained"]}, {None})
-        self.assertIn("With --keep FOLDER a script stays that clears them.\n",
+        self.assertIn("With --save FOLDER a script stays that clears them.\n",
                       self.shown(*words).stdout)
 
     def test_without_a_plan(self):

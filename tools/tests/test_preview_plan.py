@@ -166,7 +166,7 @@ class Renamed(Case):
         self.refused("plan: it would overwrite plan, which is read too", *self.WORDS,
                      "--html", "plan")
         (self.folder / "old.jsonl").write_text("x")
-        self.refused("--keep .: old.jsonl is there already", *self.WORDS, "--keep", ".")
+        self.refused("--save .: old.jsonl is there already", *self.WORDS, "--keep", ".")
 
     def test_page(self):
         """It has the rows of --json, under both names, and says by which plan."""

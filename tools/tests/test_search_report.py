@@ -10,7 +10,7 @@ from mqroute_tools.search.search_report import Report, shortened
 
 class Status(unittest.TestCase):
     def report(self, scripts: int, **more: object) -> Report:
-        options = {"save": None, "seed": 1, "scripts": 0, "only": 0, "at_least": 1} | more
+        options = {"save": None, "seed": 1, "count": 0, "number": 0, "at_least": 1} | more
         search = SimpleNamespace(scripts=scripts, time_is_up=True)
         return Report(search, argparse.Namespace(**options))
 
@@ -19,7 +19,7 @@ class Status(unittest.TestCase):
         self.assertEqual(self.report(3, at_least=3).status(), 0)
         with self.assertRaisesRegex(Fault, "^3 scripts run to the end, where --at-least asks"):
             self.report(3, at_least=4).status()
-        self.assertEqual(self.report(1, at_least=4, only=46).status(), 0)
+        self.assertEqual(self.report(1, at_least=4, number=46).status(), 0)
 
     def test_a_find_comes_first(self):
         report = self.report(1, at_least=4)

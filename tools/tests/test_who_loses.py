@@ -174,7 +174,7 @@ In all 4 copies before and 3 after: 2 lost, 1 gained, 1 changed. 0 lines refused
                 done = subprocess.run([sys.executable, TOOL, *words, "script", "before", "after"],
                                       stdout=full, stderr=subprocess.PIPE, text=True, cwd=folder)
                 self.assertEqual(
-                    (done.returncode, done.stderr), (2, "who_loses: No space left on device\n"))
+                    (done.returncode, done.stderr), (3, "who_loses: No space left on device\n"))
 
     def test_a_missing_file(self):
         done = subprocess.run([sys.executable, TOOL, "/nowhere", "/nowhere", "/nowhere"],

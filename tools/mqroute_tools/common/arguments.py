@@ -30,6 +30,12 @@ class Parser(argparse.ArgumentParser):
         print(self.format_help(), end="", file=file)
 
 
+def also_as(parser: argparse._ActionsContainer, old: str, option: argparse.Action) -> None:
+    """An option is taken by an old spelling too, which no help lists."""
+    parser.add_argument(old, dest=option.dest, type=option.type or str,
+                        default=argparse.SUPPRESS, help=argparse.SUPPRESS)
+
+
 class ShowVersion(argparse.Action):
     """Prints the tool's name and its version on a line, and ends."""
 

@@ -10,12 +10,24 @@ from .texts import escaped
 STDIN = "-"
 PACKAGE = __name__.partition(".")[0]
 SINGULARS = {"copies": "copy", "publishes": "publish"}
+MQR = "mqr"  # the command that has all others as subcommands
+# What is typed behind it for a command, where that isn't the command's own name.
+FOLDED = {"who-loses": "preview --outputs", "compare-log": "replay --log", "acl compare": "compare",
+          "acl lint": "lint", "acl why": "may"}
 
 
 def own_name() -> str:
-    """The tool's name, as it was called: log_to_script in a clone,
-    mqroute-log-to-script where it is installed."""
+    """The tool's name, as it was called: log_to_script in a clone, mqroute-log-to-script where it
+    is installed, and `mqr log-to-script` as a subcommand."""
     return Path(sys.argv[0]).stem
+
+
+def typed(command: str) -> str:
+    """What is typed for a command, such as plan or `acl compare`: a subcommand of mqr where this
+    one was."""
+    if own_name().partition(" ")[0] == MQR:
+        return f"{MQR} {FOLDED.get(command, command)}"
+    return f"mqroute-{command}"
 
 
 def note(text: str) -> None:

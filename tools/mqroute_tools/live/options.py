@@ -2,6 +2,7 @@
 import argparse
 from dataclasses import dataclass
 
+from ..common.arguments import also_as
 from ..common.option_values import amount, port
 from .packets import MQTT_3_1_1, MQTT_5
 
@@ -38,7 +39,7 @@ class BrokerOptions:
     def of(cls, options: argparse.Namespace) -> "BrokerOptions":
         files = options.ca_file, options.cert_file, options.key_file
         tls = Tls(*files, options.insecure) if options.tls or any(files) else None
-        return cls(options.host, options.port, options.username, options.password, options.on_acl,
+        return cls(options.host, options.port, options.user, options.password, options.on_acl,
                    options.patience, options.settle, options.protocol, options.any_member, tls,
                    options.websockets, options.standard)
 
@@ -46,11 +47,11 @@ class BrokerOptions:
         return f"the broker at {self.host} port {self.port}"
 
 
-def add_broker(parser: argparse.ArgumentParser, of_username: str) -> None:
+def add_broker(parser: argparse.ArgumentParser, of_user: str) -> None:
     """The options that say where a live broker is, and how it is talked to."""
-    parser.add_argument("--host", default="127.0.0.1")
-    parser.add_argument("--port", type=port, default=1883)
-    parser.add_argument("--username", metavar="NAME", help=of_username)
+    parser.add_argument("--host", metavar="HOST", default="127.0.0.1")
+    parser.add_argument("--port", type=port, metavar="PORT", default=1883)
+    also_as(parser, "--username", parser.add_argument("--user", metavar="NAME", help=of_user))
     parser.add_argument("--password", metavar="TEXT", help="password of all clients")
     parser.add_argument("--protocol", choices=(MQTT_5, MQTT_3_1_1), default=MQTT_5,
                         help="the version of MQTT that all clients speak (default 5); what 3.1.1 "

@@ -28,6 +28,7 @@ from ..script.rules import RULES
 from .by_conf import take_conf
 from .by_standard import PassedOver
 from .options import BrokerOptions, add_broker, add_waiting
+from .recorded_broker import add_recorded, compare_log, refuse_mixed
 from .refused_lines import is_refused, is_refused_by_mqtt, shown as reasons_shown, why_not_sent
 from .replay_options import add_all, look_at_options
 from .run_ends import RunEnds
@@ -188,8 +189,8 @@ def add_arguments(parser: argparse.ArgumentParser) -> None:
     parser.description = (
         "Runs a script on a live MQTT broker and compares with mqroute's output; or all cases of a "
         "folder.")
-    parser.add_argument("script", nargs="?")
-    parser.add_argument("output", nargs="?")
+    parser.add_argument("script", metavar="SCRIPT", nargs="?", help="for mqroute, which is run")
+    parser.add_argument("output", metavar="OUTPUT", nargs="?", help="what mqroute wrote for it")
     add_all(parser)
     add_broker(parser, "user name of the clients for which the script has none")
     parser.set_defaults(port=None)  # so that it's known whether it is given
@@ -215,9 +216,13 @@ def add_arguments(parser: argparse.ArgumentParser) -> None:
                         help="leave out the lines that let time pass: mqroute answers the script "
                         "without them, as a broker does that is run without waiting")
     add_waiting(parser)
+    add_recorded(parser)
 
 
 def run(options: argparse.Namespace) -> int:
+    refuse_mixed(options)
+    if options.log:
+        return compare_log(options)
     look_at_options(options)
     take_conf(options)
     if options.all:
@@ -227,7 +232,7 @@ def run(options: argparse.Namespace) -> int:
 
 
 def run_one(options: argparse.Namespace) -> int:
-    refuse_stdin_twice([options.script, options.output])
+    refuse_stdin_twice([options.script, options.output, options.acl_file])
     keep_apart([options.script, options.output, options.acl_file, options.conf])
     from .broker_run import Replay  # needs paho
     replay = Replay(BrokerOptions.of(options))

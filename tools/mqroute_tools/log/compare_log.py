@@ -28,9 +28,10 @@ def compare(watcher: Watcher, logs: Logs, output: str) -> Comparison:
 def add_arguments(parser: argparse.ArgumentParser) -> None:
     parser.description = (
         "Compares a mosquitto log's own Sending PUBLISH lines with mqroute's copies.")
-    parser.add_argument("log", nargs="*", help="as for log_to_script.py, as are the options")
-    parser.add_argument("output",
-                        help="what mqroute wrote for the script that log_to_script.py makes of the "
+    parser.add_argument("log", metavar="LOG", nargs="*",
+                        help="as for log-to-script, as are the options")
+    parser.add_argument("output", metavar="OUTPUT",
+                        help="what mqroute wrote for the script that log-to-script makes of the "
                         "logs with the same options")
     add_conf_option(parser, "the log and the form of its times")
     add_log_options(parser)

@@ -68,7 +68,7 @@ def sum_up(found: Writer, logs: Logs, written: int) -> None:
 
 def add_arguments(parser: argparse.ArgumentParser) -> None:
     parser.description = "Makes a script for mqroute of a mosquitto 2.0 log (log_type all)."
-    parser.add_argument("log", nargs="*",
+    parser.add_argument("log", metavar="LOG", nargs="*",
                         help="log files that follow one another, packed by gzip or not; "
                         "standard input if none, or -")
     add_conf_option(parser, "the log and the form of its times")

@@ -20,8 +20,12 @@ NAMES = ("time_format", "session_expiry", "no_inference", "begin")
 
 def given_options(options: argparse.Namespace, names: tuple[str, ...] = NAMES) -> list[str]:
     """Those of the options that stand on the command line, as they are written there."""
-    return [f"--{name.replace('_', '-')}" for name in names
-            if getattr(options, name) is not None and getattr(options, name) is not False]
+    return [f"--{name.replace('_', '-')}" for name in names if is_given(getattr(options, name))]
+
+
+def is_given(value: object) -> bool:
+    """Also where it is 0."""
+    return value is not None and value is not False and value != []
 
 
 def time_format(text: str) -> str:
@@ -36,7 +40,7 @@ def time_format(text: str) -> str:
     return text
 
 
-def add_log_options(parser: argparse.ArgumentParser) -> None:
+def add_log_options(parser: argparse._ActionsContainer) -> None:
     parser.add_argument("--time-format", metavar="FORMAT", type=time_format,
                         help="log_timestamp_format as in mosquitto.conf; not needed for seconds, "
                         "ISO times and lines without a time")

@@ -12,6 +12,7 @@ from functools import lru_cache
 
 from ..common.exit_status import Fault
 from ..common.files import at
+from ..common.messages import typed
 from ..plan.filters import levels, text_of
 from ..plan.script_translation import read_lines
 from ..plan.topic_plan import Plan
@@ -50,7 +51,7 @@ class ByPlan:
         counts = [len(lines) for lines in self.lines]
         if counts[0] != counts[1]:
             raise Fault(f"{scripts[0]} has {counts[0]} lines and {scripts[1]} has {counts[1]}: "
-                        "mqroute-plan script --old writes both with as many")
+                        f"{typed('plan')} script --write-old writes both with as many")
         self.at_once = all(map(self.is_renamed, self.publishes()))
 
     def publishes(self) -> Iterator[tuple[str, str]]:

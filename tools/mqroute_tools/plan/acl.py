@@ -2,13 +2,11 @@
 import argparse
 
 from ..common.files import at
-from ..common.messages import note, say
+from ..common.messages import note, say, typed
 from .list_translation import notes_on, translated
 from .report import write
 from .topic_plan import read_plan, read_text
 from .translator import Translator
-
-INEXACT = "the list isn't exact: mqroute-acl compare --plan shows all differences"
 
 
 def run(options: argparse.Namespace) -> int:
@@ -19,5 +17,5 @@ def run(options: argparse.Namespace) -> int:
     for one in found:
         note(f"{at(options.list, one.line)}: {one.words}")
     if any(one.is_difference for one in found):
-        say(INEXACT)
+        say(f"the list isn't exact: {typed('acl compare')} --plan shows all differences")
     return int(bool(found))

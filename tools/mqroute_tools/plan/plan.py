@@ -6,17 +6,18 @@ another file.
 """
 import argparse
 
-from ..common.arguments import Parser
+from ..common.arguments import Parser, also_as
 from ..common.exit_status import UsageFault
 from ..common.files import keep_apart, refuse_stdin_twice
+from ..common.messages import typed
 from . import acl, check, compare, name, retained, script
 
 RUN = {"check": check.run, "name": name.run, "acl": acl.run, "script": script.run,
        "retained": retained.run, "compare": compare.run}
 EXAMPLES = {
-    "check": "--script day.jsonl --acl-file current.acl plan",
+    "check": "--script day.jsonl --acl-file old.acl plan",
     "name": "plan plant/hall-1/energy 'plant/+/energy'",
-    "acl": "plan current.acl > new.acl",
+    "acl": "plan old.acl > new.acl",
     "script": "plan day.jsonl > new.jsonl",
     "retained": "plan day.jsonl > moving.jsonl",
     "compare": "plan day.jsonl tuesday.jsonl"}
@@ -42,60 +43,64 @@ def add_arguments(parser: Parser) -> None:
     add_compare(found.add_parser("compare", help="shows which clients of a script under new names "
                                  "don't subscribe to what they did in one under old names"))
     for word, command in found.choices.items():
-        command.closing = (f"\nexample: mqroute-plan {word} {EXAMPLES[word]}\n"
-                           "status: as `mqroute-plan --help` has it\n")
+        command.closing = (f"\nexample: {typed('plan')} {word} {EXAMPLES[word]}\n"
+                           f"status: as `{typed('plan')} --help` has it\n")
 
 
 def add_name(parser: argparse.ArgumentParser) -> None:
-    parser.add_argument("plan", help=PLAN)
-    parser.add_argument("text", nargs="+", help="a topic, a filter or $share/NAME/FILTER")
+    parser.add_argument("plan", metavar="PLAN", help=PLAN)
+    parser.add_argument("text", metavar="TEXT", nargs="+",
+                        help="a topic, a filter or $share/NAME/FILTER")
 
 
 def add_acl(parser: argparse.ArgumentParser) -> None:
-    parser.add_argument("plan", help=PLAN)
-    parser.add_argument("list")
+    parser.add_argument("plan", metavar="PLAN", help=PLAN)
+    parser.add_argument("list", metavar="LIST")
     parser.add_argument("--both", action="store_true",
                         help="keep the old lines too, while both names are in use")
 
 
 def add_compare(parser: argparse.ArgumentParser) -> None:
-    parser.add_argument("plan", help=PLAN)
-    parser.add_argument("old_script", metavar="old-script")
-    parser.add_argument("new_script", metavar="new-script")
+    parser.add_argument("plan", metavar="PLAN", help=PLAN)
+    parser.add_argument("old_script", metavar="OLD_SCRIPT")
+    parser.add_argument("new_script", metavar="NEW_SCRIPT")
 
 
 def add_check(parser: argparse.ArgumentParser) -> None:
-    parser.add_argument("plan", help=PLAN)
-    parser.add_argument("--script", help="a script under old names")
-    parser.add_argument("--acl-file", metavar="LIST", help="an access list under old names")
-    parser.add_argument("--new-acl-file", metavar="LIST", help="with --acl-file: the list that is "
+    parser.add_argument("plan", metavar="PLAN", help=PLAN)
+    parser.add_argument("--script", metavar="SCRIPT", help="a script under old names")
+    parser.add_argument("--acl-file", metavar="FILE", help="an access list under old names")
+    parser.add_argument("--new-acl-file", metavar="FILE", help="with --acl-file: the list that is "
                         "proposed in its place, under new names")
     parser.add_argument("--json", action="store_true", help="a JSON object on each line")
 
 
 def add_script(parser: argparse.ArgumentParser) -> None:
-    parser.add_argument("plan", help=PLAN)
-    parser.add_argument("script")
-    parser.add_argument("--old", metavar="FILE", help="write the old script too, with a blank line "
-                        "for each line that the new one has more")
+    parser.add_argument("plan", metavar="PLAN", help=PLAN)
+    parser.add_argument("script", metavar="SCRIPT")
+    also_as(parser, "--old", parser.add_argument(
+        "--write-old", metavar="FILE", help="write the old script too, with a blank line for each "
+        "line that the new one has more"))
     parser.add_argument("--moved", metavar="FILE", help="only these clients use the new names; "
                         "FILE has a client id on each line, in which * stands for any text")
     parser.add_argument("--bridge", metavar="ID[:USER]", help="with --moved: the client id and the "
                         "user name of the bridge that carries messages over (plan-bridge, none)")
     parser.add_argument("--no-bridge", action="store_true",
                         help="with --moved: nothing carries messages over")
-    parser.add_argument("--acl-file", metavar="LIST", help="with --moved: the list under which the "
+    parser.add_argument("--acl-file", metavar="FILE", help="with --moved: the list under which the "
                         "bridge is sent messages")
 
 
 def add_retained(parser: argparse.ArgumentParser) -> None:
-    parser.add_argument("plan", help=PLAN)
-    parser.add_argument("script", help="a script under old names; what is retained at its end")
+    parser.add_argument("plan", metavar="PLAN", help=PLAN)
+    parser.add_argument("script", metavar="SCRIPT",
+                        help="a script under old names; what is retained at its end")
     parser.add_argument("--both", action="store_true",
                         help="keep what is retained under old names too, while both are in use")
-    parser.add_argument("--client", metavar="ID[:USER]", help="the client id and the user name of "
-                        "the client that publishes (plan-mover, none)")
-    parser.add_argument("--acl-file", metavar="LIST", help="the list under which the script runs")
+    also_as(parser, "--client", parser.add_argument(
+        "--mover", metavar="ID[:USER]", help="the client id and the user name of the client that "
+        "publishes (plan-mover, none)"))
+    parser.add_argument("--acl-file", metavar="FILE", help="the list under which the script runs")
 
 
 def look_at_files(options: argparse.Namespace) -> None:
@@ -113,7 +118,7 @@ def look_at_files(options: argparse.Namespace) -> None:
             ("plan", "list", "script", "acl_file", "new_acl_file", "moved", "old_script",
              "new_script")]
     refuse_stdin_twice(read)
-    keep_apart(read, {"--old": named.get("old")})
+    keep_apart(read, {"--write-old": named.get("write_old")})
 
 
 def run(options: argparse.Namespace) -> int:

@@ -19,8 +19,8 @@ MOVER = "plan-mover"
 def run(options: argparse.Namespace) -> int:
     plan, lines = read_plan(options.plan), read_lines(options.script)
     acl = None if options.acl_file is None else read_text(options.acl_file)
-    client, user = client_and_user(options.client or MOVER)
-    refuse_taken(lines, client, "another, by --client")
+    client, user = client_and_user(options.mover or MOVER)
+    refuse_taken(lines, client, "another, by --mover")
     if options.both:
         refuse_chains(plan)
     end = day_end(lines, under(acl, options.acl_file))

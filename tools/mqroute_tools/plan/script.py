@@ -26,7 +26,7 @@ def run(options: argparse.Namespace) -> int:
     carried = "" if bridge is None else f", {bridge.carry(made)} of the bridge"
     report = Report()
     report_script(report, translator, options.script, made)
-    write(made, options.old)
+    write(made, options.write_old)
     look = (f"; {own_name()} check {options.plan} --script {options.script} shows what to look at"
             if report.odd else "")
     became = f"{several} of them became several lines or none"

@@ -177,7 +177,7 @@ class KeptNames:
             return ""
         does = "moves" if self.kept.moved() else "clears"
         if self.file is None:
-            return f"With --keep FOLDER a script stays that {does} them."
+            return f"With --save FOLDER a script stays that {does} them."
         return f"{self.file} is a script that {does} them."
 
     def json(self) -> Json:
@@ -214,7 +214,7 @@ class Preview:
     said: list[str] = field(default_factory=list)  # of what the answer is, and leaves out
     conf: Json | None = None  # the configuration, and what is in force by it
     reload: Reload = field(default_factory=lambda: Reload(""))  # of the proposed list
-    could_keep: bool = False  # whether with --keep the causes would have commands
+    could_keep: bool = False  # whether with --save the causes would have commands
     plan: str | None = None
     carried: list[Carried] = field(default_factory=list)
     kept: KeptNames | None = None  # with a plan

@@ -277,7 +277,7 @@ def kept_under(options: argparse.Namespace, lists: Lists, renaming: Renaming,
     made = moving_script(kept, fresh(MOVER, clients), None, False)
     if made:
         (folder / RETAINED).write_bytes(script_text(made))
-    return KeptNames(kept, None if options.keep is None else os.path.join(options.keep, RETAINED))
+    return KeptNames(kept, None if options.save is None else os.path.join(options.save, RETAINED))
 
 
 def compared(lists: Lists, script: Script, before: str, after: str) -> Differences:
@@ -302,7 +302,7 @@ def compared_by_plan(lists: Lists, renaming: Renaming, before: str, after: str) 
 def later_name(options: argparse.Namespace, script: Script) -> str | None:
     """Under which name the script can be read when the preview has ended."""
     if script.is_made:
-        return None if options.keep is None else os.path.join(options.keep, SCRIPT)
+        return None if options.save is None else os.path.join(options.save, SCRIPT)
     return script.name if script.is_file else None
 
 
@@ -310,7 +310,7 @@ def why_script(options: argparse.Namespace, found: Preview) -> str | None:
     """The script that mqroute-why can be asked about: with a plan the one under new names."""
     if options.plan is None:
         return found.script
-    return None if options.keep is None else os.path.join(options.keep, NEW)
+    return None if options.save is None else os.path.join(options.save, NEW)
 
 
 def wanted_lines(causes: list[Cause]) -> set[int]:
@@ -339,8 +339,8 @@ def put_together(options: argparse.Namespace, lists: Lists, script: Script,
     if renaming is not None:
         found.plan, found.carried = renaming.plan.name, list(renaming.carried())
         publishes = renaming.publishes(found.facts.wanted_publishes)
-    is_file = lists.proposed.path == lists.proposed.name
-    found.could_keep = is_file and options.keep is None and (
+    is_file = lists.proposed.is_file
+    found.could_keep = is_file and options.save is None and (
         script.is_made or renaming is not None)
     command = WhyCommand(options, why_script(options, found) if is_file else None, publishes)
     for cause in found.causes():

@@ -6,7 +6,7 @@ from collections.abc import Callable
 from dataclasses import dataclass, field
 
 from ..common.exit_status import Fault
-from ..common.messages import counted
+from ..common.messages import counted, typed
 from ..common.texts import escaped
 from ..log.comparison import Comparison
 from ..log.difference_kinds import BROKERS_TOPIC, UNEXPLAINED
@@ -66,7 +66,7 @@ class Check:
     def examples(self) -> list[str]:
         more = self.differences - len(self.shown)
         return [f"    {escaped(one)}" for one in self.shown] + (
-            [f"    and {more:,} more: mqroute-compare-log has all"] if more > 0 and self.shown
+            [f"    and {more:,} more: {typed('compare-log')} has all"] if more > 0 and self.shown
             else [])
 
     def in_words(self) -> str:

@@ -1,4 +1,4 @@
-"""The folder in which a preview works: a temporary one, of which --keep lets some files stay."""
+"""The folder in which a preview works: a temporary one, of which --save lets some files stay."""
 import os
 from collections.abc import Iterable, Iterator
 from contextlib import contextmanager
@@ -20,7 +20,7 @@ def refuse_to_overwrite(kept: str, names: Iterable[str]) -> None:
     for name in names:
         path = Path(kept, name)
         if os.path.lexists(path):
-            raise Fault(f"--keep {kept}: {path} is there already")
+            raise Fault(f"--save {kept}: {path} is there already")
 
 
 @contextmanager

@@ -2,7 +2,7 @@
 from collections.abc import Iterable, Iterator
 
 from ..common.files import at
-from ..common.messages import counted, named
+from ..common.messages import counted, named, typed
 from ..losses.html_escape import escaped, visible
 from ..losses.script_lines import script_lines
 from ..plan.kept import Kept, Move, OldSession
@@ -114,7 +114,7 @@ class Rows:
     def carried(self) -> str:
         columns = (Column("Line of the script"), Column("Subscription"), Column("Becomes"),
                    Column("Remark"))
-        return table("carried", "As <code>mqroute-plan check</code> shows it", columns,
+        return table("carried", f"As <code>{typed('plan')} check</code> shows it", columns,
                      map(self.carried_row, self.found.carried))
 
     def carried_row(self, one: Carried) -> str:
@@ -135,8 +135,9 @@ class Rows:
 
     def remarks(self) -> str:
         columns = Column("Line"), Column("Text"), Column("Remark")
-        return table("remarks", "What <code>mqroute-acl lint</code> says of the proposed list, and "
-                     "not of the current one", columns, map(self.remark, self.found.remarks))
+        lint = typed("acl lint")
+        return table("remarks", f"What <code>{lint}</code> says of the proposed list, and not of "
+                     "the current one", columns, map(self.remark, self.found.remarks))
 
     def remark(self, one: Remark) -> str:
         where = "the list" if one.line is None else escaped(at(self.found.proposed, one.line))

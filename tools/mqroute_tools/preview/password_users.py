@@ -33,7 +33,7 @@ def is_of_somebody(right: Right, others: list[str]) -> bool:
 
 
 def mistaken(found: Preview, names: list[str], file: str) -> Iterator[str]:
-    """That a list names users who can't connect: of CURRENT those that PROPOSED names too aren't
+    """That a list names users who can't connect: of OLD those that NEW names too aren't
     said twice."""
     said: set[str] = set()
     for name in (found.proposed, found.current):

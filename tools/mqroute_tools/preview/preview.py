@@ -15,6 +15,7 @@ import sys
 from pathlib import Path
 from typing import TYPE_CHECKING
 
+from ..common.arguments import also_as
 from ..common.exit_status import FAILED, UsageFault
 from ..common.files import keep_apart, refuse_stdin_twice
 from ..common.option_values import port, whole_number
@@ -23,6 +24,7 @@ from ..common.texts import json_text
 from ..log.options import add_log_options
 from ..script.rules import MOSQUITTO, RULES
 from . import kept_folder
+from .outputs import add_outputs, compare_outputs, refuse_mixed
 
 if TYPE_CHECKING:
     from .in_force import NoAnswer
@@ -34,30 +36,31 @@ MOST = 4_294_967_295
 def add_arguments(parser: argparse.ArgumentParser) -> None:
     parser.description = ("Shows what a proposed access list would change, tried on a log or a "
                           "script.")
-    parser.add_argument("current", help="the access list that is in force, or -: standard input. "
-                        "With --conf it is left out")
-    parser.add_argument("proposed", nargs="?", help="the list in its place")
-    parser.add_argument("source", nargs="*", metavar="log-or-script",
+    parser.add_argument("current", metavar="OLD", help="the access list that is in force, or -: "
+                        "standard input. With --conf it is left out")
+    parser.add_argument("proposed", metavar="NEW", nargs="?", help="the list in its place")
+    parser.add_argument("source", nargs="*", metavar="LOG_OR_SCRIPT",
                         help="a script for mqroute, or mosquitto logs that follow one another. "
                         "With --conf logs, or those that it names")
     parser.add_argument("--conf", metavar="FILE", help="a mosquitto.conf, which says what is in "
                         "force: lists, listeners, the log and more")
-    parser.add_argument("--port", type=port, metavar="N", help="with --conf: the listener whose "
-                        "list PROPOSED replaces, where they have different ones")
+    parser.add_argument("--port", type=port, metavar="PORT", help="with --conf: the listener whose "
+                        "list NEW replaces, where they have different ones")
     parser.add_argument("--rules", choices=RULES, default=MOSQUITTO,
                         help="by whose rules lists are read, and decide (mosquitto)")
     parser.add_argument("--plan", metavar="PLAN", help="topics are renamed by this plan, and "
                         "the proposed list has new names")
     parser.add_argument("--html", metavar="FILE", help="write a page, too")
-    parser.add_argument("--title", help="of the page")
+    parser.add_argument("--title", metavar="TEXT", help="of the page")
     parser.add_argument("--json", action="store_true", help="one JSON object in place of the text")
-    parser.add_argument("--no-check", action="store_true", help="don't look whether CURRENT was "
+    parser.add_argument("--no-check", action="store_true", help="don't look whether OLD was "
                         "the list in force when the logs were written")
-    parser.add_argument("--keep", metavar="FOLDER",
-                        help="leave the script of a log and both outputs there")
+    also_as(parser, "--keep", parser.add_argument(
+        "--save", metavar="FOLDER", help="leave the script of a log and both outputs there"))
     for name in ("--max-retained", "--max-queued"):
         parser.add_argument(name, type=whole_number(0, MOST), metavar="N", help="as for mqroute")
     add_log_options(parser)
+    add_outputs(parser)
 
 
 def check(options: argparse.Namespace) -> None:
@@ -70,7 +73,7 @@ def check(options: argparse.Namespace) -> None:
     elif options.port is not None:
         raise UsageFault("--port needs --conf")
     elif not options.source:
-        raise UsageFault("needs CURRENT, PROPOSED, and a script or logs; or --conf and PROPOSED")
+        raise UsageFault("needs OLD, NEW, and a script or logs; or --conf and NEW")
     if options.plan is not None and options.rules == MOSQUITTO:
         raise UsageFault("--plan goes by mqroute's own rules alone: give --rules own")
     if options.title is not None and options.html is None:
@@ -80,15 +83,18 @@ def check(options: argparse.Namespace) -> None:
     refuse_stdin_twice(read)
     keep_apart(read, {"--html": options.html})
     names = kept_folder.NAMES if options.plan is None else kept_folder.ALL_NAMES
-    if options.keep is not None:
-        kept_folder.refuse_to_overwrite(options.keep, names)
-    if None not in (options.html, options.keep):
+    if options.save is not None:
+        kept_folder.refuse_to_overwrite(options.save, names)
+    if None not in (options.html, options.save):
         if os.path.realpath(options.html) in (
-                os.path.realpath(Path(options.keep, name)) for name in names):
-            raise UsageFault("--html names a file that --keep writes")
+                os.path.realpath(Path(options.save, name)) for name in names):
+            raise UsageFault("--html names a file that --save writes")
 
 
 def run(options: argparse.Namespace) -> int:
+    refuse_mixed(options)
+    if options.outputs is not None:
+        return compare_outputs(options)
     check(options)
     from .in_force import NoAnswer  # takes time to load, as does what comes after
     from .not_taken import ListsNotTaken
@@ -134,12 +140,12 @@ def write(text: str) -> None:
 
 def shown(options: argparse.Namespace) -> int:
     from . import gathering, html_page, text_report, words
-    with kept_folder.work_folder(options.keep) as folder:
+    with kept_folder.work_folder(options.save) as folder:
         found = gathering.preview_of(options, folder)
         if options.html is not None:
             html_page.write(options.html, found, html_page.title_of(options))
-        if options.keep is not None:
-            kept_folder.keep(folder, options.keep)
+        if options.save is not None:
+            kept_folder.keep(folder, options.save)
     if options.json:
         text = json_text(found.json(words.summary(found)), indent=1) + "\n"
     else:

@@ -7,7 +7,7 @@ from dataclasses import dataclass
 from pathlib import Path
 
 from ..common.exit_status import UsageFault
-from ..common.files import GZIP, STDIN, open_input, plain_file
+from ..common.files import STDIN, is_packed, open_input, plain_file
 from ..log.log_files import Logs
 from ..log.log_forms import open_log
 from ..log.log_to_script import sum_up, write_script
@@ -66,11 +66,6 @@ def source(name: str, folder: Path, number: int) -> Source:
 def unpack(name: str, path: str) -> None:
     with open_input(name) as stream, open(path, "xb") as copy:
         shutil.copyfileobj(stream, copy)
-
-
-def is_packed(path: str) -> bool:
-    with open(path, "rb") as stream:
-        return stream.read(len(GZIP)) == GZIP
 
 
 def sources_of(options: argparse.Namespace, folder: Path) -> list[Source]:

@@ -23,7 +23,7 @@ Row = TypeVar("Row")
 PAINT = {"lost": RED, "refused": RED, "gained": GREEN, "accepted": GREEN}
 COUNTED = {"lost": "lost", "gained": "gained", "changed": "changed", "refused": "refused",
            "accepted": "no longer refused"}
-KEEP_HINT = ("with --keep FOLDER the script stays, and each cause has a command that shows more "
+KEEP_HINT = ("with --save FOLDER the script stays, and each cause has a command that shows more "
              "of its first line")
 
 

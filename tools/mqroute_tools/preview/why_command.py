@@ -3,6 +3,7 @@ import argparse
 import shlex
 from collections.abc import Mapping
 
+from ..common.messages import typed
 from .findings import Cause
 
 LIMITS = ("max_retained", "max_queued")
@@ -34,7 +35,7 @@ class WhyCommand:
         # by the lines that causes have, those of the script
         self.publishes = publishes
         self.script = script
-        self.words = ["mqroute-why", "--acl-file", file_word(options.proposed), "--rules",
+        self.words = [typed("why"), "--acl-file", file_word(options.proposed), "--rules",
                       options.rules]
         for name in LIMITS:
             if getattr(options, name) is not None:

@@ -3,6 +3,7 @@ import difflib
 from collections.abc import Iterable, Iterator
 from typing import Any, NamedTuple
 
+from ..common.messages import typed
 from ..common.texts import json_text
 from .file_kinds import HEAD, LOG, wrong
 from .output import Command, command_of, is_blank
@@ -11,7 +12,6 @@ from .strict_json import NoJson, read
 LINE_LIMIT = 1_048_576  # bytes
 LONGEST_SHOWN = 60
 NO_COMMAND = "no line is a command"
-HINTS = {LOG: "see mqroute-log-to-script", "JSON": "a script has one command on each line"}
 SECONDS = 4_294_967_295
 
 
@@ -160,4 +160,6 @@ class Seen:
                 return
             self.add(line)
         if not self.has_command:
-            raise wrong(self.name, self.head, NO_COMMAND, HINTS)
+            raise wrong(self.name, self.head, NO_COMMAND, {
+                LOG: f"see {typed('log-to-script')}",
+                "JSON": "a script has one command on each line"})

@@ -4,6 +4,7 @@ from dataclasses import dataclass, field
 from pathlib import Path
 
 from ..common.exit_status import Fault
+from ..common.files import open_input
 from ..live.cases import read_commands
 from ..live.stored_diff import read_differences
 from ..script.output import Command
@@ -57,7 +58,8 @@ def with_list(script: list[Command], stored: list[Difference],
     """Where an access list stands beside it, the script sets it first."""
     if not file.exists():
         return script, stored
-    text = file.read_bytes().decode("utf-8", "replace")
+    with open_input(str(file)) as stream:
+        text = stream.read().decode("utf-8", "replace")
     return ([{"do": "acl", "text": text}, *script],
             [one._replace(line=one.line + 1) for one in stored])
 

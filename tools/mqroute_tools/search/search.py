@@ -14,6 +14,7 @@ import time
 from collections.abc import Iterator
 from pathlib import Path
 
+from ..common.arguments import also_as
 from ..common.exit_status import Fault
 from ..common.messages import numbered, say
 from ..common.option_values import amount, whole_number
@@ -77,9 +78,9 @@ def learn(search: Search, known: list[Known]) -> Iterator[Find]:
 
 def numbers(options: argparse.Namespace) -> Iterator[int]:
     """Those of the scripts that are run."""
-    if options.only:
-        return iter([options.only])
-    return iter(range(1, options.scripts + 1)) if options.scripts else itertools.count(1)
+    if options.number:
+        return iter([options.number])
+    return iter(range(1, options.count + 1)) if options.count else itertools.count(1)
 
 
 def searched(search: Search, use: Use, known: list[Known], options: argparse.Namespace) -> Report:
@@ -118,12 +119,12 @@ def add_what(parser: argparse.ArgumentParser) -> None:
                         "expire")
     parser.add_argument("--minutes", type=amount, default=MINUTES, metavar="N",
                         help="how long to search at most (default 10)")
-    parser.add_argument("--scripts", type=whole_number(1), metavar="N",
-                        help="run so many scripts, if the time allows")
+    count = parser.add_argument("--count", type=whole_number(1), metavar="N",
+                                help="run so many scripts, if the time allows")
     parser.add_argument("--seed", type=whole_number(0), default=1, metavar="N",
                         help="of the random scripts (default 1)")
-    parser.add_argument("--only", type=whole_number(1), metavar="N",
-                        help="run the script of this number alone")
+    number = parser.add_argument("--number", type=whole_number(1), metavar="N",
+                                 help="run the script of this number alone")
     parser.add_argument("--at-least", type=whole_number(1), default=1, metavar="N",
                         help="end with status 2 where fewer scripts were run to their end and "
                         "nothing was found (default 1)")
@@ -132,6 +133,8 @@ def add_what(parser: argparse.ArgumentParser) -> None:
     parser.add_argument("--known", type=Path, action="append", default=[], metavar="FOLDER",
                         help="also ignore the differences that the scripts NAME.jsonl in it show, "
                         "as NAME.diff has them")
+    also_as(parser, "--scripts", count)
+    also_as(parser, "--only", number)
 
 
 def add_arguments(parser: argparse.ArgumentParser) -> None:

@@ -135,13 +135,13 @@ class Report:
 
     def status(self) -> int:
         """Nothing was found is known only where what was asked for was run."""
-        search, wanted = self.search, self.options.scripts
+        search, wanted = self.search, self.options.count
         if self.finds:
             return 1
         if not search.scripts:
             why = "the time was up" if search.time_is_up else "the broker can't run it"
             raise Fault(f"no script was run to its end: {why}")
-        if search.scripts < self.options.at_least and not self.options.only:
+        if search.scripts < self.options.at_least and not self.options.number:
             raise Fault(f"{counted(search.scripts, 'scripts')} run to the end, where --at-least "
                         f"asks for {self.options.at_least}: give --minutes")
         if wanted and search.scripts < wanted and search.time_is_up:

@@ -2,6 +2,7 @@
 import argparse
 
 from ..common.exit_status import Fault
+from ..common.messages import typed
 from ..script.access_list import AccessList
 from ..script.output import Block
 from . import causes
@@ -56,7 +57,7 @@ def block_of(asked: Question, blocks: dict[int, Block]) -> Block:
     if block is None:
         raise Disagreement(asked.line, "it has no answer")
     if block.refused and block.refused not in causes.REFUSALS:
-        raise Fault(f"{asked.place}: no command, {block.refused}: see mqroute-check")
+        raise Fault(f"{asked.place}: no command, {block.refused}: see {typed('check')}")
     return block
 
 

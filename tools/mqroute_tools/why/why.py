@@ -30,9 +30,12 @@ OF_LOG = ("topic", "at", *NAMES)
 
 def add_arguments(parser: argparse.ArgumentParser) -> None:
     parser.description = "Shows why a client was sent the message of a publish, or wasn't."
-    parser.add_argument("script", nargs="?", help="for mqroute, or -: standard input")
-    parser.add_argument("line", nargs="?", type=whole_number(1), help="of a publish in the script")
-    parser.add_argument("client", nargs="?", help="without it, each that has connected by then")
+    parser.add_argument("script", metavar="SCRIPT", nargs="?",
+                        help="for mqroute, or -: standard input")
+    parser.add_argument("line", metavar="LINE", nargs="?", type=whole_number(1),
+                        help="of a publish in the script")
+    parser.add_argument("client", metavar="CLIENT", nargs="?",
+                        help="without it, each that has connected by then")
     parser.add_argument("--client", metavar="CLIENT", dest="named", help="the same")
     parser.add_argument("--acl-file", metavar="FILE", help="as for mqroute")
     parser.add_argument("--rules", choices=RULES, default=MOSQUITTO,
@@ -42,7 +45,7 @@ def add_arguments(parser: argparse.ArgumentParser) -> None:
     parser.add_argument("--json", action="store_true", help="a JSON object on each line")
     parser.add_argument("--log", action="append", metavar="LOG",
                         help="a log in place of SCRIPT and LINE; the options behind it go with it")
-    parser.add_argument("--topic", help="that was published")
+    parser.add_argument("--topic", metavar="TOPIC", help="that was published")
     parser.add_argument("--at", metavar="TIME", help="when that was, as it stands in the log")
     add_conf_option(parser, "the list, the log and the form of its times")
     add_log_options(parser)
