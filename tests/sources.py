@@ -40,7 +40,7 @@ MADE_OF = {
     "Rules": "Own, Mosquitto",
     "Sessions": "by_id: BTreeMap<RcStr, Session>, ends: Ends",
     "Ends": "heap: BinaryHeap<(Reverse<u64>, RcStr)>",
-    "Subscriptions": "alloc: Global, tree: LevelTree<FilterEntry>, lists: ClientLists",
+    "Subscriptions": "alloc: Global, tree: LevelTree<FilterEntry>, count: u64, lists: ClientLists",
     "Retained": "alloc: Global, tree: Messages, deadlines: Deadlines",
     "RowsByAccess": "denies: ByOwner<Row>, grants: ByOwner<Row>",
     "ByOwner": "everyone: Vec<T>, anonymous: Vec<T>, named: BTreeMap<String, Vec<T>>",

@@ -39,22 +39,24 @@ key_then test s x h =
 -- ## One that joins
 
 module _ (x s : Subscription) where
+  -- what takes the place of one has its key
+  pub key_placed : (y : Subscription)
+      → same_key s (if same_key x y then x else y) ≡ same_key s y
+  key_placed y =
+      pick (same_key x y)
+      (λ t. rw t (sym (key_then (λ c sh f. same_text c s.client && same_share sh s.share
+      && same_text f s.filter) x y t)))
+      (λ n. rw n)
+
   placed : (rows : List Subscription)
       → list_any (same_key s) (map (λ y. if same_key x y then x else y) rows)
       ≡ list_any (same_key s) rows
   placed rows =
       list_any-map (λ (y : Subscription). if same_key x y then x else y) (same_key s) rows
-      ∙ list_any-same (λ y. same_key s (if same_key x y then x else y)) (same_key s) each rows
-    where
-      each : (y : Subscription) → same_key s (if same_key x y then x else y) ≡ same_key s y
-      each y =
-          pick (same_key x y)
-          (λ t. rw t (sym (key_then (λ c sh f. same_text c s.client && same_share sh s.share
-          && same_text f s.filter) x y t)))
-          (λ n. rw n)
+      ∙ list_any-same (λ y. same_key s (if same_key x y then x else y)) (same_key s) key_placed rows
 
   -- a key that is there is found by each with the same
-  there : (rows : List Subscription) → same_key x s ≡ true
+  pub there : (rows : List Subscription) → same_key x s ≡ true
       → list_any (same_key x) rows ≡ list_any (same_key s) rows
   there rows h = list_any-same (same_key x) (same_key s)
       (λ y. sym (key_then (λ c sh f. same_text y.client c && same_share y.share sh

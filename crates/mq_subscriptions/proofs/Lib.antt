@@ -10,6 +10,7 @@ pub mod ListedLemmas
 pub mod JoinTurn
 pub mod OneServed
 pub mod AnyLemmas
+pub mod CountLemmas
 pub mod ClientFilterLemmas
 pub mod EntryTurnLemmas
 pub mod AscendingLemmas

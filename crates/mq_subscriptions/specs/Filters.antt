@@ -1,6 +1,6 @@
 -- What is kept at one filter, and at all of them.
 use Rattle.std.specs.Prelude.{◌≡◌, Bool, true, false, List, [], ◌∷◌, map, Option, Some, None}
-use Rattle.std.specs.Prelude.{string_bytes, ◌&&◌}
+use Rattle.std.specs.Prelude.{string_bytes, ◌&&◌, ℕ, ◌≤◌, length}
 use Rattle.std.specs.List.{filter, flat_map, list_any, AllByRecursion}
 use Rattle.std.specs.Map.{lookup}
 use Rattle.std.specs.Option.{option_map, option_map_or}
@@ -8,6 +8,7 @@ use Rattle.std.specs.List.Sorted.{IsStrictlySortedBy}
 use Rattle.std.specs.Ordering.{nat_cmp, is_eq}
 use Rattle.std.specs.Cmp.Lexicographic.{slice_cmp}
 use Rattle.mq_topic.specs.Levels.{levels, level_order}
+use Rattle.mq_topic.specs.Prefixes.{capped}
 use Rattle.mq_topic.specs.Texts.{share_of, filter_part}
 use Rattle.mq_world.specs.Lists.{Text, same_text}
 use Rattle.mq_topic.specs.declared.subscription.SubFilter.{SubFilter}
@@ -105,6 +106,11 @@ pub record AreEntriesFor (topic : Text) (found : List Entry) : Type 0 where
   pub ordered : IsStrictlySortedBy level_order (map (λ a. levels a.filter) found)
   pub here : AllByRecursion AreHere found
   pub match : AllByRecursion (λ a. filter_matches a.filter topic ≡ true) found
+
+-- no key stands twice, and the number is that of the subscriptions
+pub record AreCounted (count : ℕ) (rows : List Subscription) : Type 0 where
+  pub once : (s : Subscription) → length (filter (same_key s) rows) ≤ 1
+  pub number : count ≡ capped (length rows)
 
 -- ## What each client has
 

@@ -7,7 +7,8 @@ use Rattle.mq_world.specs.Keys.{Key, key_cmp}
 use Rattle.mq_world.specs.Lists.{Text}
 use Rattle.mq_subscriptions.specs.Filters.{Member, Entry, GroupList, unshared_rows, group_rows}
 use Rattle.mq_subscriptions.specs.Filters.{NoneEmpty, FilterLists}
-use Rattle.mq_subscriptions.specs.Filters.{AreListed, SubscriptionsView, entries_view}
+use Rattle.mq_subscriptions.specs.Filters.{AreListed, AreCounted, all_rows, SubscriptionsView}
+use Rattle.mq_subscriptions.specs.Filters.{entries_view}
 use Rattle.mq_subscriptions.specs.declared.subscriptions.group.Group.TheInside as in_group
 use Rattle.mq_subscriptions.specs.declared.subscriptions.share_groups.ShareGroups.TheInside as in_groups
 use Rattle.mq_subscriptions.specs.declared.subscriptions.filter_entry.FilterEntry.TheInside as in_at
@@ -45,5 +46,7 @@ pub record AreClientLists (inside : in_lists.Inside) : Type 0 where
 abbrev pub subscriptions_of : in_subscriptions.Inside → SubscriptionsView
 subscriptions_of inside = entries_view inside.tree
 
-abbrev pub AreSubscriptions : in_subscriptions.Inside → Type 0
-AreSubscriptions inside = AreListed inside.tree inside.lists
+-- the lists are those of the tree, and the number is that of its subscriptions
+pub record AreSubscriptions (inside : in_subscriptions.Inside) : Type 0 where
+  pub listed : AreListed inside.tree inside.lists
+  pub counted : AreCounted inside.count (all_rows inside.tree)

@@ -9,11 +9,10 @@
 //!
 //! The member of a group that was served goes to its end, so that the next one takes its turn.
 ghost use Rattle.std.specs.Prelude.{◌≡◌, ◌+◌, [], length, not, IsTrue, OnOk, OnErr, IfOk, map};
-ghost use Rattle.std.specs.Prelude.{Some, true, false, None, ◌&&◌};
+ghost use Rattle.std.specs.Prelude.{Some};
 ghost use Rattle.std.specs.Rc.{rc_str_bytes};
 ghost use Rattle.std.specs.List.{filter, list_any};
 ghost use Rattle.mq_topic.specs.Texts.{is_subscription};
-ghost use Rattle.mq_tree.specs.Entries.{is_key};
 ghost use Rattle.mq_topic.specs.Prefixes.{capped};
 ghost use Rattle.mq_topic.specs.Prefixes.{prefixes, met_by_name};
 ghost use Rattle.mq_world.specs.Lists.{same_text};
@@ -24,9 +23,7 @@ ghost use Rattle.mq_world.specs.Copies.{filter_matches};
 ghost use Rattle.mq_world.specs.Retained.{asks_for_retained};
 ghost use Rattle.mq_world.specs.Turns.{SameInTurn};
 ghost use Rattle.mq_subscriptions.specs.Turns.{upsert, put_last, all_turned, turn_of};
-ghost use Rattle.mq_subscriptions.specs.Filters.{AreKeys, all_rows, AreEntries, AreEntriesFor};
-ghost use Rattle.mq_subscriptions.specs.Filters.{is_in_list};
-ghost use Rattle.std.specs.Map.{lookup};
+ghost use Rattle.mq_subscriptions.specs.Filters.{AreKeys, AreEntriesFor};
 ghost use Rattle.mq_topic.specs.Levels.{levels};
 
 pub(crate) mod client_filters;
@@ -36,23 +33,26 @@ pub(crate) mod filter_entry;
 pub(crate) mod group;
 pub(crate) mod matches;
 pub(crate) mod share_groups;
+pub(crate) mod tree_edits;
 pub(crate) mod turn;
 
-use crate::subscriptions::client_filters::ClientFilters;
 use crate::subscriptions::client_lists::ClientLists;
 use crate::subscriptions::filter_entry::FilterEntry;
+use crate::subscriptions::tree_edits::{insert_in, remove_all, remove_counted, replace_in};
 use crate::subscriptions::turn::Turn;
 use mq_topic::{SubFilter, TopicFilter, TopicName};
 use mq_tree::{LevelTree, Steps};
 use mq_world::SubscriptionOptions;
 use std::alloc::{AllocError, Global};
 use std::marker::Model;
-use std::rc::{Rc, RcStr};
+use std::rc::RcStr;
 
 /// The subscriptions, by their filters, and for each client that has any its own, so that its end walks no other's.
+/// Their number is kept beside them.
 pub struct Subscriptions {
     alloc: Global,
     tree: LevelTree<FilterEntry>,
+    count: u64,
     lists: ClientLists,
 }
 
@@ -62,6 +62,7 @@ impl Drop for Subscriptions {
         let Subscriptions {
             alloc: _,
             tree: _,
+            count: _,
             lists: _,
         } = self;
     }
@@ -86,6 +87,7 @@ impl Subscriptions {
         Subscriptions {
             alloc,
             tree: LevelTree::new(alloc),
+            count: 0,
             lists: ClientLists::new(alloc),
         }
     }
@@ -149,7 +151,10 @@ impl Subscriptions {
             sub_filter,
             options,
         ) {
-            Ok(()) => Ok(()),
+            Ok(()) => {
+                self.count = self.count.saturating_add(1);
+                Ok(())
+            }
             Err(fault) => {
                 self.lists.remove(id, text);
                 Err(fault)
@@ -165,7 +170,7 @@ impl Subscriptions {
             self.old.rows }
         ensures keys { AreKeys self.new }
     {
-        let existed = remove_in(&mut self.tree, client, text);
+        let existed = remove_counted(&mut self.tree, &mut self.count, client, text);
         self.lists.remove(client, text);
         existed
     }
@@ -179,7 +184,7 @@ impl Subscriptions {
         let Some(filters) = self.lists.take(client) else {
             return;
         };
-        remove_all(&mut self.tree, &filters, client);
+        remove_all(&mut self.tree, &mut self.count, &filters, client);
     }
 
     /// What is kept at the filters that match the name, in level order of the filters.
@@ -220,11 +225,11 @@ impl Subscriptions {
         }
     }
 
-    /// How many subscriptions there are, at most `u64::MAX`, by a walk over the tree.
+    /// How many subscriptions there are, at most `u64::MAX`.
     pub fn len(&self) -> u64
         ensures { result ≡ capped (length self.now.rows) }
     {
-        self.tree.total()
+        self.count
     }
 
     /// How many nodes the tree keeps, at most `u64::MAX`.
@@ -232,137 +237,5 @@ impl Subscriptions {
         ensures { result ≡ capped (length (prefixes self.now.keys)) }
     {
         self.tree.nodes()
-    }
-}
-
-/// Whether the tree has a filter, and whether it has a client's subscription to it.
-#[derive(Clone, Copy)]
-struct Found {
-    filter: bool,
-    subscription: bool,
-}
-
-// Puts a subscription in the place of the one with its key, if there is one.
-fn replace_in(
-    tree: &mut LevelTree<FilterEntry>,
-    alloc: Global,
-    client: &RcStr,
-    sub_filter: &SubFilter,
-    options: SubscriptionOptions,
-) -> Result<Found, AllocError>
-    requires { AreEntries tree.old }
-    ensures filter { IfOk result (λ found. found.filter ≡ false
-        → lookup (is_key (levels sub_filter.now.filter)) tree.new ≡ None) }
-    ensures existed { IfOk result (λ found. found.subscription
-        ≡ list_any (has_sub_filter (rc_str_bytes client.now) sub_filter.now) (all_rows tree.old)) }
-    ensures replaced { IfOk result (λ found. found.subscription ≡ true
-        → SameInTurn (all_rows tree.new)
-        (upsert (sub_filter_row (rc_str_bytes client.now) sub_filter.now options)
-        (all_rows tree.old))) }
-    ensures absent { IfOk result (λ found. found.subscription ≡ false → tree.new ≡ tree.old) }
-    ensures err { OnErr result (tree.new ≡ tree.old) }
-    ensures kept { AreEntries tree.new }
-{
-    let share = sub_filter.share.as_deref();
-    let Some(at) = tree.get_mut(&sub_filter.filter) else {
-        return Ok(Found {
-            filter: false,
-            subscription: false,
-        });
-    };
-    if !at.contains(share, client.as_str()) {
-        return Ok(Found {
-            filter: true,
-            subscription: false,
-        });
-    }
-    at.insert(alloc, share, client.clone()?, options)?;
-    Ok(Found {
-        filter: true,
-        subscription: true,
-    })
-}
-
-// Adds a subscription. Where the tree is known not to have its filter, that is not looked for.
-fn insert_in(
-    tree: &mut LevelTree<FilterEntry>,
-    alloc: Global,
-    has_filter: bool,
-    client: &RcStr,
-    sub_filter: &SubFilter,
-    options: SubscriptionOptions,
-) -> Result<(), AllocError>
-    requires kept { AreEntries tree.old }
-    requires absent { has_filter ≡ false
-        → lookup (is_key (levels sub_filter.now.filter)) tree.old ≡ None }
-    ensures ok { OnOk result (SameInTurn (all_rows tree.new)
-        (upsert (sub_filter_row (rc_str_bytes client.now) sub_filter.now options)
-        (all_rows tree.old))) }
-    ensures err { OnErr result (tree.new ≡ tree.old) }
-    ensures kept { AreEntries tree.new }
-{
-    let client = client.clone()?;
-    if !has_filter {
-        return add_in(tree, alloc, client, sub_filter, options);
-    }
-    match tree.get_mut(&sub_filter.filter) {
-        Some(at) => at.insert(alloc, sub_filter.share.as_deref(), client, options),
-        None => add_in(tree, alloc, client, sub_filter, options),
-    }
-}
-
-// A filter with one subscription, made aside.
-fn add_in(
-    tree: &mut LevelTree<FilterEntry>,
-    alloc: Global,
-    client: RcStr,
-    sub_filter: &SubFilter,
-    options: SubscriptionOptions,
-) -> Result<(), AllocError>
-    requires kept { AreEntries tree.old }
-    requires absent { lookup (is_key (levels sub_filter.now.filter)) tree.old ≡ None }
-    ensures ok { OnOk result (SameInTurn (all_rows tree.new)
-        (upsert (sub_filter_row (rc_str_bytes client) sub_filter.now options)
-        (all_rows tree.old))) }
-    ensures err { OnErr result (tree.new ≡ tree.old) }
-    ensures kept { AreEntries tree.new }
-{
-    let filter = Rc::new(alloc, sub_filter.filter.clone()?)?;
-    let mut at = FilterEntry::new(alloc, filter);
-    at.insert(alloc, sub_filter.share.as_deref(), client, options)?;
-    tree.put(&sub_filter.filter, at)?;
-    Ok(())
-}
-
-// Takes a subscription out, and the filter with its last one; says whether there was one.
-fn remove_in(tree: &mut LevelTree<FilterEntry>, client: &str, text: &str) -> bool
-    requires kept { AreEntries tree.old }
-    requires valid { IsTrue (is_subscription text.now) }
-    ensures existed { result ≡ list_any (has_asked client.now text.now) (all_rows tree.old) }
-    ensures rows { all_rows tree.new ≡ filter (λ s. not (has_asked client.now text.now s))
-        (all_rows tree.old) }
-    ensures kept { AreEntries tree.new }
-{
-    let (share, filter) = SubFilter::split(text);
-    let Some(at) = tree.get_mut(&filter) else {
-        return false;
-    };
-    let existed = at.contains(share, client);
-    at.remove(share, client);
-    if at.is_empty() {
-        let _ = tree.take(&filter);
-    }
-    existed
-}
-
-// Takes a client's subscriptions out of the tree.
-fn remove_all(tree: &mut LevelTree<FilterEntry>, filters: &ClientFilters, client: &str)
-    requires { AreEntries tree.old }
-    ensures rows { all_rows tree.new ≡ filter
-        (λ s. not (same_text s.client client.now && is_in_list filters.now s)) (all_rows tree.old) }
-    ensures kept { AreEntries tree.new }
-{
-    for text in filters.texts() {
-        let _ = remove_in(tree, client, text.as_str());
     }
 }

@@ -1,11 +1,4 @@
-use Rattle.std.proofs.Common.{List, sym, ap, ◌∙◌}
-use Rattle.std.proofs.lemmas.List.Concat.{length-flat_map}
-use Rattle.mq_topic.specs.Prefixes.{capped}
-use Rattle.mq_world.specs.Lists.{Text}
-use Rattle.mq_subscriptions.specs.Filters.{Entry}
 use Rattle.mq_subscriptions.proofs.subscriptions.Subscriptions.len.Goals as goal
 
 pub returns : goal.returns
-returns c =
-    rw (← c.self.view_is) (c.total.ensures
-    ∙ ap capped (sym (length-flat_map (λ (e : List Text × Entry). e.1.rows) c.self.inside.tree)))
+returns c = rw (← c.self.view_is) c.self.invariant.counted.number

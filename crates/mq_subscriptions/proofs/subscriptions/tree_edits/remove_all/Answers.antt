@@ -4,10 +4,10 @@ use Rattle.std.proofs.lemmas.Map.Iter.{rest_more, rest_all}
 use Rattle.mq_subscriptions.specs.Filters.{all_rows}
 use Rattle.mq_subscriptions.specs.ClientViews.{key_in}
 use Rattle.mq_subscriptions.proofs.ListedLemmas.{one-leaves, none-leave}
-use Rattle.mq_subscriptions.proofs.subscriptions.remove_all.Goals as goal
+use Rattle.mq_subscriptions.proofs.subscriptions.tree_edits.remove_all.Goals as goal
 
-pub remove_in-requires-clause-valid : goal.remove_in-requires-clause-valid
-remove_in-requires-clause-valid c =
+pub remove_counted-requires-clause-valid : goal.remove_counted-requires-clause-valid
+remove_counted-requires-clause-valid c =
     let left = rest_more deref _ _ _ c.in-Some.text c.in-Some.is c.next.ensures.steps in
     rw c.as_str.ensures.value (rw left at c.loop-text.invariant.valid).0
 
@@ -17,10 +17,11 @@ loop-text-preserved c =
     let rows = all_rows c.loop-text.tree in
     let left = rest_more deref _ _ _ c.in-Some.text c.in-Some.is c.next.ensures.steps in
     record {
-      rows = rw (c.remove_in.ensures.rows, c.as_str.ensures.value)
+      rows = rw (c.remove_counted.ensures.rows, c.as_str.ensures.value)
           (one-leaves c.args.client.now (key_in c.in-Some.text.now) rest rows
           ∙ (rw left at c.loop-text.invariant.rows));
-      kept = c.remove_in.ensures.kept;
+      kept = c.remove_counted.ensures.kept;
+      counted = c.remove_counted.ensures.counted;
       valid = (rw left at c.loop-text.invariant.valid).1;
     }
 

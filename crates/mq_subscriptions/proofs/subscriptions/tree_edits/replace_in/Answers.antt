@@ -2,7 +2,7 @@ use Rattle.std.proofs.Common.{◌∙◌, refl, sym, option_copied, option_map, s
 use Rattle.std.specs.Rc.{rc_str_bytes}
 use Rattle.mq_world.proofs.ListLemmas.{on_err}
 use Rattle.mq_subscriptions.proofs.TreeLemmas.{tree-any, tree-absent_any, tree-joined, tree-same}
-use Rattle.mq_subscriptions.proofs.subscriptions.replace_in.Goals as goal
+use Rattle.mq_subscriptions.proofs.subscriptions.tree_edits.replace_in.Goals as goal
 
 -- ## The filter or the subscription is absent
 

@@ -7,7 +7,7 @@ use Rattle.mq_subscriptions.proofs.TreeLemmas.{tree-any, tree-absent_any, tree-l
 use Rattle.mq_subscriptions.proofs.TreeLemmas.{tree-absent, set-kept, out-kept}
 use Rattle.mq_subscriptions.proofs.EntryLemmas.{keyed}
 use Rattle.mq_subscriptions.proofs.InTurn.{leaving}
-use Rattle.mq_subscriptions.proofs.subscriptions.remove_in.Goals as goal
+use Rattle.mq_subscriptions.proofs.subscriptions.tree_edits.remove_in.Goals as goal
 
 pub returns-in_default-clause-rows : goal.returns-in_default-clause-rows
 returns-in_default-clause-rows c =

@@ -6,7 +6,7 @@ use Rattle.mq_tree.specs.Entries.{is_key}
 use Rattle.mq_subscriptions.specs.Filters.{Entry}
 use Rattle.mq_subscriptions.proofs.Outcomes.{by_outcome}
 use Rattle.mq_subscriptions.proofs.TreeLemmas.{tree-joined, tree-same}
-use Rattle.mq_subscriptions.proofs.subscriptions.insert_in.Goals as goal
+use Rattle.mq_subscriptions.proofs.subscriptions.tree_edits.insert_in.Goals as goal
 
 pub returns-in-Some : goal.returns-in-Some
 returns-in-Some c =

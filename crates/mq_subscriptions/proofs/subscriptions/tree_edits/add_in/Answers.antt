@@ -2,7 +2,7 @@ use Rattle.std.proofs.Common.{◌≡◌, ◌∙◌, ap, refl, sym, subst, string
 use Rattle.std.specs.Rc.{rc_str_bytes}
 use Rattle.mq_subscriptions.specs.Filters.{Entry, AreEntries, row}
 use Rattle.mq_subscriptions.proofs.TreeLemmas.{tree-added}
-use Rattle.mq_subscriptions.proofs.subscriptions.add_in.Goals as goal
+use Rattle.mq_subscriptions.proofs.subscriptions.tree_edits.add_in.Goals as goal
 
 pub returns-clause-ok : goal.returns-clause-ok
 returns-clause-ok c =
