@@ -1,5 +1,5 @@
 -- The index of the ends of sessions.
-use Rattle.std.proofs.Common.{◌≡◌, ℕ, ◌+◌, ◌≤◌, ◌==◌, nat_le, Bool, true, false, true≢false}
+use Rattle.std.proofs.Common.{◌≡◌, ℕ, ◌+◌, ◌*◌, ◌==◌, nat_le, Bool, true, false, true≢false}
 use Rattle.std.proofs.Common.{cond, ◌||◌, ◌&&◌, not, List, [], ◌∷◌, length, Option, Some, None}
 use Rattle.std.proofs.Common.{refl, sym, ◌∙◌, ap, subst, arith}
 use Rattle.std.proofs.Common.{if◌then◌else◌}
@@ -10,23 +10,25 @@ use Rattle.std.specs.Map.{lookup, keys_of}
 use borrow.Author.Tests.{eqb-true}
 use Rattle.std.proofs.lemmas.Bool.Decides.{nat_tests}
 use Rattle.std.proofs.lemmas.Bool.{and_parts, and_right}
+use Rattle.std.proofs.lemmas.List.{length-map}
 use Rattle.std.proofs.Math.Bool.{or-true, or-false, and-true}
-use Rattle.mq_sessions.specs.Dues.{Due, Dues, first_of, same_due, is_in, AreWith, AreRest}
+use Rattle.mq_sessions.specs.Dues.{Due, first_of, same_due, is_in, AreWith, AreRest}
 use Rattle.mq_world.specs.Keys.{key_cmp}
 use Rattle.mq_world.specs.World.{Session, Connected, Away, has_id, session_cmp}
 use Rattle.mq_world.specs.Lists.{Text, same_text, with_row}
 use Rattle.mq_world.specs.Clock.{is_over}
-use Rattle.mq_world.specs.Sessions.{connected, has_ended, is_present}
+use Rattle.mq_world.specs.Sessions.{has_ended}
 use Rattle.mq_world.specs.Waiting.{has_place, with_waiting}
 use Rattle.mq_world.proofs.BoolLemmas.{pick}
-use Rattle.mq_world.proofs.ListLemmas.{none-any, length-filter-most, none_again}
-use Rattle.mq_world.proofs.SameLemmas.{filter-swap}
+use Rattle.mq_world.proofs.ListLemmas.{none-any, none_again}
 use Rattle.mq_world.proofs.OrderLemmas.{all_weaker, all_filtered, all-with_row, session_total}
 use Rattle.mq_world.proofs.OrderLemmas.{same_text-itself}
 use Rattle.mq_sessions.specs.Queue.{QueueItem, queue_copies, edit_session, queue_one}
-use Rattle.mq_sessions.specs.Ends.{end_of, has_end, IsListed, AreListed, AreIndexed}
+use Rattle.mq_sessions.specs.Ends.{end_of, has_end, is_ending, ending, IsListed, AreListed}
+use Rattle.mq_sessions.specs.Ends.{AreIndexed, HasRoom}
 use Rattle.mq_sessions.specs.Ends.{Entry, views_of}
 use Rattle.mq_sessions.specs.Views.{session_in, view_of}
+use Rattle.mq_sessions.specs.declared.sessions.index.Index.{Index}
 use Rattle.mq_sessions.specs.declared.sessions.session.Session as code
 use Rattle.mq_world.proofs.TextKeys.{apart, finds, finds-is}
 use Rattle.mq_sessions.proofs.ReachedLemmas.{all_mapped}
@@ -162,26 +164,30 @@ with-new due dues more h =
 some_due : (x y : Due) → ◌≡◌ {A = Option Due} (Some x) (Some y) → x ≡ y
 some_due x y h = cc
 
--- a first end that is no session's is taken out
-pub listed-rest : (f : Due) (dues rest : List Due) (ss : List Session) → Some f ≡ first_of dues
-    → AreRest dues rest → list_any (has_end f) ss ≡ false → AreListed dues ss → AreListed rest ss
-listed-rest f [] rest ss first left none listed = cc
-listed-rest f (d ∷ ds) rest ss first left none listed =
-    let gone : list_any (has_end d) ss ≡ false =
-    subst (λ x. list_any (has_end x) ss ≡ false) (some_due f d first) none in
-    all_weaker (λ s. (has_end d s ≡ false) × IsListed (d ∷ ds) s) (IsListed rest) step ss
-    (all_both (λ s. has_end d s ≡ false) (IsListed (d ∷ ds)) ss (none-any (has_end d) ss gone)
-    listed)
+-- an end that is no session's is taken out
+pub listed-without : (d : Due) (dues rest : List Due) (ss : List Session) → AreWith d rest dues
+    → list_any (has_end d) ss ≡ false → AreListed dues ss → AreListed rest ss
+listed-without d dues rest ss left none listed =
+    all_weaker (λ s. (has_end d s ≡ false) × IsListed dues s) (IsListed rest) step ss
+    (all_both (λ s. has_end d s ≡ false) (IsListed dues) ss (none-any (has_end d) ss none) listed)
   where
-    step : (s : Session) → (has_end d s ≡ false) × IsListed (d ∷ ds) s → IsListed rest s
+    step : (s : Session) → (has_end d s ≡ false) × IsListed dues s → IsListed rest s
     step s h = (elim (end_of s)
         as (λ o. option_map_or (λ end. same_due (end, s.id) d) o false ≡ false
-        → IfSome o (λ end. is_in (end, s.id) (d ∷ ds) ≡ true)
+        → IfSome o (λ end. is_in (end, s.id) dues ≡ true)
         → IfSome o (λ end. is_in (end, s.id) rest ≡ true)) [
           | None ↦ λ fails k. k
           | Some end ↦ λ fails k. or_right (same_due (end, s.id) d) (is_in (end, s.id) rest) fails
               (sym (left.tests (same_due (end, s.id))) ∙ k)
         ]) h.0 h.1
+
+-- a first end that is no session's is taken out
+pub listed-rest : (f : Due) (dues rest : List Due) (ss : List Session) → Some f ≡ first_of dues
+    → AreRest dues rest → list_any (has_end f) ss ≡ false → AreListed dues ss → AreListed rest ss
+listed-rest f [] rest ss first left none listed = cc
+listed-rest f (d ∷ ds) rest ss first left none listed =
+    listed-without d (d ∷ ds) rest ss left
+    (subst (λ x. list_any (has_end x) ss ≡ false) (some_due f d first) none) listed
 
 -- an index without its first end is shorter by one
 pub shorter : (f : Due) (dues rest : List Due) → Some f ≡ first_of dues → AreRest dues rest
@@ -260,43 +266,39 @@ queued-as limit b P step s h =
     ]
 
 -- copies that begin to wait change nothing that the index of ends keeps
-pub indexed-queued : (limit : ℕ) (b : QueueItem) (index : Dues) (ss : List Session)
+pub indexed-queued : (limit : ℕ) (b : QueueItem) (index : Index) (ss : List Session)
     → AreIndexed index ss → AreIndexed index (queue_one limit b ss)
-indexed-queued limit b index ss h = record {
-  listed = all_mapped (IsListed index.entries) f
-      (λ s k. queued-as limit b (IsListed index.entries) (λ t i. i) s k) ss h.listed;
-  room = (let same = count ss in omega (arith, h.room));
-}
+indexed-queued limit b index ss h =
+    let same = count ss in
+    let long : length (queue_one limit b ss) ≡ length ss = length-map ss f in
+    record {
+      kept = record {
+        listed = all_mapped (IsListed index.ends.entries) f
+            (λ s k. queued-as limit b (IsListed index.ends.entries) (λ t i. i) s k) ss
+            h.kept.listed;
+        empty = h.kept.empty;
+        fits = h.kept.fits;
+        room = subst (λ n. HasRoom (2 * n) index) (sym long) h.kept.room;
+      };
+      count = h.count ∙ sym same;
+      few = omega (arith, h.few, same);
+    }
   where
     f : Session → Session
     f = edit_session (queue_copies limit b.1) b.0
 
     count : (xs : List Session)
-        → length (connected (queue_one limit b xs)) ≡ length (connected xs)
+        → length (ending (queue_one limit b xs)) ≡ length (ending xs)
     count [] = refl
     count (x ∷ xs) =
-        let rest : List Session = connected xs in
-        let queued_rest : List Session = connected (queue_one limit b xs) in
+        let rest : List Session = ending xs in
+        let queued_rest : List Session = ending (queue_one limit b xs) in
         let same : length queued_rest ≡ length rest = count xs in
-        let here : is_present (f x) ≡ is_present x =
-        queued-as limit b (λ t. is_present t ≡ is_present x) (λ t i. i) x refl in
+        let here : is_ending (f x) ≡ is_ending x =
+        queued-as limit b (λ t. is_ending t ≡ is_ending x) (λ t i. i) x refl in
         ap (λ v. length (cond v (f x ∷ queued_rest) queued_rest)) here
-        ∙ (elim (is_present x) as (λ v. length (cond v (f x ∷ queued_rest) queued_rest)
+        ∙ (elim (is_ending x) as (λ v. length (cond v (f x ∷ queued_rest) queued_rest)
         ≡ length (cond v (x ∷ rest) rest)) [
           | true ↦ omega arith
           | false ↦ same
         ])
-
--- ## How many are connected
-
--- of fewer sessions, no more are connected
-pub connected-fewer : (q : Session → Bool) (ss : List Session)
-    → length (connected (filter q ss)) ≤ length (connected ss)
-connected-fewer q ss =
-    let same : length (filter is_present (filter q ss)) ≡ length (filter q (filter is_present ss))
-    = ap length (filter-swap is_present q ss) in
-    omega (arith, length-filter-most q (filter is_present ss))
-
--- no more sessions are connected than there are
-pub connected-most : (ss : List Session) → length (connected ss) ≤ length ss
-connected-most ss = length-filter-most is_present ss

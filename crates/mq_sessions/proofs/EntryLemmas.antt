@@ -43,6 +43,16 @@ none_below k (e ∷ es) h =
     ap (λ b. cond b (Some e.1) (lookup (finds (rc_str_bytes k)) es)) (ap is_eq h.0)
     ∙ none_below k es h.1
 
+-- nor where a key that comes before all of them is looked up
+pub none_less : (k : Key) (e : Entry) (es : List Entry) → key_cmp k e.0 ≡ Less
+    → IsStrictlySortedBy key_cmp (keys_of (e ∷ es))
+    → lookup (finds (rc_str_bytes k)) es ≡ None
+unfolding IsStrictlySortedBy
+none_less k e es r sorted =
+    none_below k es (all_weaker (λ x. key_cmp e.0 x ≡ Less) (λ x. key_cmp k x ≡ Less)
+    (λ x h. nat_list_cmp_total.trans (rc_str_bytes k) (rc_str_bytes e.0) (rc_str_bytes x) r h)
+    (keys_of es) sorted.0)
+
 put_set : (k : Key) (u v : code.Session) (es : List Entry)
     → IsStrictlySortedBy key_cmp (keys_of es) → lookup (finds (rc_str_bytes k)) es ≡ Some u
     → set_value (finds (rc_str_bytes k)) es v ≡ insert_entry key_cmp es k v
@@ -56,10 +66,7 @@ put_set k u v (e ∷ es) sorted found =
     ≡ match_ordering r ((k, v) ∷ e ∷ es) ((e.0, v) ∷ es) (e ∷ insert_entry key_cmp es k v) in
     (elim (key_cmp k e.0) as P [
       | Less ↦ λ r f. (
-          let none : old ≡ None = none_below k es (all_weaker (λ x. key_cmp e.0 x ≡ Less)
-          (λ x. key_cmp k x ≡ Less)
-          (λ x h. nat_list_cmp_total.trans (rc_str_bytes k) (rc_str_bytes e.0) (rc_str_bytes x) r h)
-          (keys_of es) sorted.0) in
+          let none : old ≡ None = none_less k e es r sorted in
           cc)
       | Equal ↦ λ r f. refl
       | Greater ↦ λ r f. ap (λ l. e ∷ l) (put_set k u v es sorted.1 f)

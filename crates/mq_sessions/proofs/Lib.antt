@@ -6,5 +6,8 @@ pub mod EndLemmas
 pub mod TakenLemmas
 pub mod EntryLemmas
 mod HeapLemmas
+pub mod CountLemmas
+pub mod IndexLemmas
+mod SweepLemmas
 mod WalkLemmas
 mod PendingLemmas

@@ -24,11 +24,11 @@ use Rattle.mq_world.specs.Lists.{Text, same_text, text_cmp}
 use Rattle.mq_world.specs.World.{Session}
 use Rattle.mq_world.specs.Waiting.{has_place, with_waiting}
 use Rattle.mq_world.proofs.OrderLemmas.{all_weaker, same_text-is, text_flip}
-use Rattle.mq_sessions.specs.Dues.{Dues}
 use Rattle.mq_sessions.specs.Ends.{AreIndexed, Entry, KeepIds}
 use Rattle.mq_sessions.specs.Pending.{AreAscending, Joins, is_beyond, is_for, item_cmp, joined}
 use Rattle.mq_sessions.specs.Queue.{QueueItem, edit_session, queue_all, queue_copies, queue_one}
 use Rattle.mq_sessions.specs.Views.{queue_item_of, session_in, view_of}
+use Rattle.mq_sessions.specs.declared.sessions.index.Index.{Index}
 use Rattle.mq_sessions.specs.declared.sessions.queued.QueuedCopy.{QueuedCopy}
 use Rattle.mq_sessions.specs.declared.sessions.session.Session as code
 use Rattle.mq_sessions.proofs.EndLemmas.{indexed-queued}
@@ -295,7 +295,7 @@ module _ {F : Type 0} (T : Calls F) (limit : F → ℕ) (left : F → List Queue
       )
 
 -- copies that begin to wait change nothing that the index of ends keeps
-pub indexed_all : (limit : ℕ) (items : List QueueItem) (index : Dues) (ss : List Session)
+pub indexed_all : (limit : ℕ) (items : List QueueItem) (index : Index) (ss : List Session)
     → AreIndexed index ss → AreIndexed index (queue_all limit items ss)
 indexed_all limit [] index ss h = h
 indexed_all limit (b ∷ items) index ss h =

@@ -2,6 +2,7 @@
 use Rattle.std.specs.Prelude.{◌≡◌, ℕ, ◌+◌, ◌==◌, ◌&&◌, ◌||◌, Bool, List, [], ◌∷◌, length, Option}
 use Rattle.std.specs.Prelude.{Some, None}
 use Rattle.std.specs.List.{list_any}
+use Rattle.std.specs.BinaryHeap.{IsUpperBound}
 use Rattle.std.specs.Rc.{rc_str_bytes}
 use Rattle.std.specs.Str.{bytes_eq}
 use Rattle.std.specs.declared.alloc.Global.{Global}
@@ -19,9 +20,15 @@ abbrev pub due_of : Reverse ℕ × RcStr Global → Due
 due_of entry = (entry.0.0, rc_str_bytes entry.1)
 
 -- an earlier end is greater, so that a heap has it first
+abbrev pub due_cmp : Due → Due → Ordering
+due_cmp x y = ordering_then (nat_cmp y.0 x.0) (slice_cmp nat_cmp x.1 y.1)
+
 abbrev pub entry_cmp : Reverse ℕ × RcStr Global → Reverse ℕ × RcStr Global → Ordering
-entry_cmp x y = ordering_then (nat_cmp y.0.0 x.0.0)
-    (slice_cmp nat_cmp (rc_str_bytes x.1) (rc_str_bytes y.1))
+entry_cmp x y = due_cmp (due_of x) (due_of y)
+
+-- none of these comes before the end
+abbrev pub IsFirst : Due → List Due → Type 0
+IsFirst due dues = IsUpperBound due_cmp due dues
 
 -- the ends, a first one first and the others in any order, and how many there is room for
 pub record Dues : Type 0 where

@@ -28,8 +28,8 @@ ghost use Rattle.mq_sessions.specs.Views.{session_in};
 
 mod disconnection;
 mod end_heap;
-mod ends;
 pub(crate) mod finder;
+mod index;
 mod pending;
 pub(crate) mod queue;
 pub(crate) mod queued;
@@ -41,8 +41,7 @@ use crate::sessions::pending::{Pending, can_walk};
 use crate::sessions::queued::QueuedCopy;
 use crate::sessions::session::Session;
 use disconnection::disconnect;
-use end_heap::Ends;
-use ends::{drop_stale_ends, push_end, reserve_ends};
+use index::{Index, drop_stale_ends, push_end, reserve_ends, sweep, was_ending};
 use mq_world::{Clock, Delivery};
 use resume::restart;
 use std::alloc::{AllocError, Global};
@@ -54,13 +53,13 @@ use std::rc::RcStr;
 /// The sessions, by client id, and the ends of those whose clients are away.
 pub struct Sessions {
     by_id: BTreeMap<RcStr, Session>,
-    ends: Ends,
+    index: Index,
 }
 
 // Opaque to callers' proofs: one step, and not one for each field (docs/explanation/gate.md).
 impl Drop for Sessions {
     fn drop(self) {
-        let Sessions { by_id: _, ends: _ } = self;
+        let Sessions { by_id: _, index: _ } = self;
     }
 }
 
@@ -75,7 +74,7 @@ impl Model for Sessions {
 
     ghost view = { sessions_of };
 
-    ghost invariant = { λ a. AreIndexed a.ends (sessions_of a) × KeepIds a.by_id.entries };
+    ghost invariant = { λ a. AreIndexed a.index (sessions_of a) × KeepIds a.by_id.entries };
 }
 
 /// A client that is connected: its id, as its session keeps it, and its user name, if it has one.
@@ -93,7 +92,7 @@ impl Sessions {
     {
         Sessions {
             by_id: BTreeMap::new(alloc),
-            ends: Ends::new(alloc),
+            index: Index::new(alloc),
         }
     }
 
@@ -184,9 +183,11 @@ impl Sessions {
             interval) self.old) }
         ensures err { OnErr result (self.new ≡ self.old) }
     {
-        reserve_ends(alloc, &mut self.ends, &self.by_id)?;
+        reserve_ends(alloc, &mut self.index, &self.by_id)?;
         if let Some(session) = self.by_id.get_mut(id.as_str()) {
+            let ended = session.end().is_some();
             let copies = restart(alloc, session, clock, id, user, interval, clean)?;
+            sweep(&mut self.index, ended, &self.by_id);
             return Ok(copies);
         }
         self.insert(alloc, id, user, interval)?;
@@ -207,9 +208,10 @@ impl Sessions {
         ensures err { OnErr result (self.new ≡ self.old) }
     {
         let kept = id.clone()?;
-        reserve_ends(alloc, &mut self.ends, &self.by_id)?;
+        reserve_ends(alloc, &mut self.index, &self.by_id)?;
         let session = Session::new(alloc, kept, user, interval);
-        self.by_id.insert(id, session)?;
+        let older = self.by_id.insert(id, session)?;
+        sweep(&mut self.index, was_ending(older), &self.by_id);
         Ok(())
     }
 
@@ -222,7 +224,7 @@ impl Sessions {
         let Some(disconnection) = disconnect(&mut self.by_id, id, clock) else {
             return;
         };
-        push_end(&mut self.ends, disconnection.end, disconnection.id);
+        push_end(&mut self.index, disconnection.end, disconnection.id);
     }
 
     pub fn remove(&mut self, id: &str)
@@ -230,7 +232,8 @@ impl Sessions {
     {
         // Learns that the ids are in order.
         let _count = self.by_id.len();
-        let _ = self.by_id.remove(id);
+        let removed = self.by_id.remove(id);
+        sweep(&mut self.index, was_ending(removed), &self.by_id);
     }
 
     /// Takes out a session that has ended, if there is one, and gives the id of its client.
@@ -244,14 +247,15 @@ impl Sessions {
         ensures taken { IfSome result (λ id. self.new
             ≡ filter (λ session. not (has_id (rc_str_bytes id) session)) self.old) }
     {
-        drop_stale_ends(moment, &mut self.ends, &self.by_id);
-        if !self.ends.any_until(moment) {
+        drop_stale_ends(moment, &mut self.index.ends, &self.by_id);
+        if !self.index.ends.any_until(moment) {
             return None;
         }
         // Learns that the ids are in order.
         let _count = self.by_id.len();
-        let client = self.ends.pop()?;
-        let _ = self.by_id.remove(client.as_str());
+        let (_, client) = self.index.ends.pop()?;
+        let removed = self.by_id.remove(client.as_str());
+        sweep(&mut self.index, was_ending(removed), &self.by_id);
         Some(client)
     }
 

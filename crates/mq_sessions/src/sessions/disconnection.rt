@@ -1,9 +1,9 @@
 //! The end of a client's connection.
-ghost use Rattle.std.specs.Prelude.{◌≡◌, ◌+◌, length, IfSome, IfNone, map, false, true, List};
+ghost use Rattle.std.specs.Prelude.{◌≡◌, ◌+◌, length, IfSome, IfNone, map, is_some, false, true, List};
 ghost use Rattle.std.specs.Rc.{rc_str_bytes};
 ghost use Rattle.mq_sessions.specs.Dues.{Due, is_in};
 ghost use Rattle.mq_world.specs.Sessions.{connected, is_connected, left_by};
-ghost use Rattle.mq_sessions.specs.Ends.{AreListed, KeepIds, views_of};
+ghost use Rattle.mq_sessions.specs.Ends.{AreListed, KeepIds, ending, one_if, views_of};
 
 use crate::sessions::session::Session;
 use mq_world::Clock;
@@ -32,6 +32,8 @@ pub(crate) fn disconnect(
         ≡ map (left_by clock.moment id.now) (views_of sessions.old.entries)) }
     ensures fewer { IfSome result (λ _. length (connected (views_of sessions.new.entries)) + 1
         ≡ length (connected (views_of sessions.old.entries))) }
+    ensures ending { IfSome result (λ it. length (ending (views_of sessions.new.entries))
+        ≡ length (ending (views_of sessions.old.entries)) + one_if (is_some it.end)) }
     ensures listed { IfSome result (λ it. (dues : List Due)
         → AreListed dues (views_of sessions.old.entries)
         → IfSome it.end (λ end. is_in (end, rc_str_bytes it.id) dues ≡ true)

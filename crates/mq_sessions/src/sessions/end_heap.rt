@@ -2,11 +2,11 @@
 //!
 //! `with_room` makes all room, and no other call takes memory. An end that is added or taken out costs a number of steps
 //! that is logarithmic in how many there are.
-ghost use Rattle.std.specs.Prelude.{◌≡◌, ◌+◌, ◌<◌, ◌≤◌, nat_le, false, [], length, IfOk, IsTrue};
+ghost use Rattle.std.specs.Prelude.{◌≡◌, ◌+◌, ◌<◌, ◌≤◌, nat_le, false, [], length, IfOk, IfSome};
 ghost use Rattle.std.specs.Option.{option_map, option_map_or};
 ghost use Rattle.std.specs.List.{list_any};
 ghost use Rattle.std.specs.Rc.{rc_str_bytes};
-ghost use Rattle.mq_sessions.specs.Dues.{first_of, AreWith, AreRest};
+ghost use Rattle.mq_sessions.specs.Dues.{first_of, is_in, AreWith, AreRest, IsFirst};
 
 use std::alloc::{AllocError, Global};
 use std::cmp::Reverse;
@@ -54,14 +54,18 @@ impl Ends {
         Ok(Ends { heap })
     }
 
-    /// Whether there is room for so many more.
-    pub fn has_room(&self, more: usize) -> bool
-        ensures { IsTrue result → length self.now.entries + more ≤ self.now.room }
+    /// How many there are.
+    pub fn len(&self) -> usize
+        ensures { result ≡ length self.now.entries }
     {
-        match self.heap.len().checked_add(more) {
-            None => false,
-            Some(all) => all <= self.heap.capacity(),
-        }
+        self.heap.len()
+    }
+
+    /// How many there is room for.
+    pub fn room(&self) -> usize
+        ensures { result ≡ self.now.room }
+    {
+        self.heap.capacity()
     }
 
     /// A first end and its client, if there is one.
@@ -85,6 +89,17 @@ impl Ends {
         }
     }
 
+    /// Whether the end is there, if none that is there comes before it. It looks at the first alone.
+    pub fn has_first(&self, end: u64, client: &RcStr) -> bool
+        requires { IsFirst (end, rc_str_bytes client.now) self.now.entries }
+        ensures { result ≡ is_in (end, rc_str_bytes client.now) self.now.entries }
+    {
+        match self.heap.peek() {
+            None => false,
+            Some(first) => end == first.0.0 && client.as_str() == first.1.as_str(),
+        }
+    }
+
     /// Adds an end.
     pub fn add(&mut self, end: u64, client: RcStr)
         requires { length self.old.entries < self.old.room }
@@ -94,14 +109,16 @@ impl Ends {
         self.heap.push((Reverse(end), client)).unwrap();
     }
 
-    /// Takes the first end out. Gives its client.
-    pub fn pop(&mut self) -> Option<RcStr>
-        ensures client { option_map rc_str_bytes result
-            ≡ option_map (λ due. due.1) (first_of self.old.entries) }
+    /// Takes the first end out, and gives it with its client.
+    pub fn pop(&mut self) -> Option<(u64, RcStr)>
+        ensures first { option_map (λ first. (first.0, rc_str_bytes first.1)) result
+            ≡ first_of self.old.entries }
         ensures entries { AreRest self.old.entries self.new.entries }
+        ensures others { IfSome result (λ first.
+            IsFirst (first.0, rc_str_bytes first.1) self.new.entries) }
         ensures room { self.new.room ≡ self.old.room }
     {
-        let (_, client) = self.heap.pop()?;
-        Some(client)
+        let (Reverse(end), client) = self.heap.pop()?;
+        Some((end, client))
     }
 }

@@ -25,8 +25,8 @@ invariant_of-self-2 c =
     ∙ queued-id c.args.limit id (map waiting_of c.args.queued_copy.copies)
     (view_of c.in-Some.session.now)) c.in-Some.ensures.ordered
     ∙ ap (λ i. map (edit_session put i) (map session_in es)) c.as_str.ensures.value in (
-      subst (AreIndexed c.self.inside.ends) (sym is)
-          (indexed-queued c.args.limit begin c.self.inside.ends sessions c.self.invariant.0),
+      subst (AreIndexed c.self.inside.index) (sym is)
+          (indexed-queued c.args.limit begin c.self.inside.index sessions c.self.invariant.0),
       subst KeepIds (sym (c.get_mut.follows.holds c.queue.new.self).0)
           (ids-edited (finds id) c.in-Some.session.now c.queue.new.self es
           (sym c.in-Some.ensures.value) c.queue.ensures.id c.self.invariant.1),

@@ -20,8 +20,8 @@ queued c =
 
 pub invariant_of-self : goal.invariant_of-self
 invariant_of-self c = (
-  subst (AreIndexed c.self.inside.ends) (sym (queued c))
-      (indexed_all c.args.limit (map queue_item_of c.args.all.items) c.self.inside.ends
+  subst (AreIndexed c.self.inside.index) (sym (queued c))
+      (indexed_all c.args.limit (map queue_item_of c.args.all.items) c.self.inside.index
       (sessions_of c.self.inside) c.self.invariant.0),
   walked_ids _ (λ f. (closure.captures f).limit) (λ f. (closure.captures f).pending)
       (λ f k v b w f' t. search rules) _ _ _ c.retain.ensures.filtered c.self.invariant.1,

@@ -10,6 +10,7 @@ use Rattle.mq_sessions.specs.Views.{kept_id, session_at, session_in}
 use Rattle.mq_sessions.proofs.SessionLemmas.{edited-is, found-is}
 use Rattle.mq_world.proofs.TextKeys.{finds}
 use Rattle.mq_sessions.proofs.EntryLemmas.{absent-kept, connected-found, connected-left, ids-edited}
+use Rattle.mq_sessions.proofs.CountLemmas.{ending-left}
 use Rattle.mq_sessions.proofs.EntryLemmas.{ids-left, listed-left, present-kept}
 use Rattle.mq_sessions.proofs.sessions.disconnection.disconnect.Goals as goal
 
@@ -75,6 +76,13 @@ returns-clause-fewer c =
     (present-kept (rc_str_bytes c.in-Some-disconnect.id) c.in-Some.session.now
     c.in-Some-disconnect.ensures.id)
     (ap is_present c.in-Some-disconnect.ensures.left))
+
+pub returns-clause-ending : goal.returns-clause-ending
+returns-clause-ending c =
+    ending-left (finds c.args.id.now) c.in-Some.session.now c.disconnect.new.self
+    c.args.sessions.now.entries _ (rc_str_bytes c.in-Some-disconnect.id) c.end.result
+    (c.get_mut.follows.holds c.disconnect.new.self).0 c.in-Some.ensures.value
+    c.in-Some-disconnect.ensures.id c.end.ensures
 
 pub returns-clause-listed : goal.returns-clause-listed
 returns-clause-listed c = λ dues listed there.

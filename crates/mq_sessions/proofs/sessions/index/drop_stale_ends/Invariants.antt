@@ -1,6 +1,6 @@
 use Rattle.std.proofs.Common.{◌≡◌, ◌≤◌, length}
 use Rattle.mq_sessions.specs.Ends.{AreListed, views_of}
-use Rattle.mq_sessions.proofs.sessions.ends.drop_stale_ends.Given as goal
+use Rattle.mq_sessions.proofs.sessions.index.drop_stale_ends.Given as goal
 
 abbrev pub invariant-loop-end : goal.invariant-loop-end
 invariant-loop-end l = record {

@@ -4,7 +4,7 @@ use Rattle.std.specs.Option.{option_eq, option_map_or}
 use Rattle.mq_sessions.specs.Ends.{end_of, has_end, views_of}
 use Rattle.mq_sessions.specs.Views.{view_of}
 use Rattle.mq_sessions.proofs.EndLemmas.{any-found, ends_then, same-end}
-use Rattle.mq_sessions.proofs.sessions.ends.has_end.Goals as goal
+use Rattle.mq_sessions.proofs.sessions.index.has_end.Goals as goal
 
 pub returns-in-None : goal.returns-in-None
 returns-in-None c =

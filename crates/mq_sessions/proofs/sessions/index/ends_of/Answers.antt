@@ -1,10 +1,11 @@
-use Rattle.std.proofs.Common.{ap, length, arith}
+use Rattle.std.proofs.Common.{◌≡◌, ap, sym, is_some, length, arith}
 use Rattle.std.specs.Map.Iter.{deref_pair}
 use Rattle.std.proofs.lemmas.Map.Iter.{rest_more, rest_all}
-use Rattle.mq_sessions.specs.Ends.{Entry}
+use Rattle.mq_sessions.specs.Ends.{Entry, ending, is_ending, one_if, views_of}
 use Rattle.mq_sessions.specs.Views.{session_in}
+use Rattle.mq_sessions.proofs.CountLemmas.{ending-more}
 use Rattle.mq_sessions.proofs.EndLemmas.{lists-all, lists-more, no-end, one-end, with-new, with-old}
-use Rattle.mq_sessions.proofs.sessions.ends.ends_of.Goals as goal
+use Rattle.mq_sessions.proofs.sessions.index.ends_of.Goals as goal
 
 pub loop-id-preserved-in-Some-end : goal.loop-id-preserved-in-Some-end
 loop-id-preserved-in-Some-end c =
@@ -20,8 +21,14 @@ loop-id-preserved-in-Some-end c =
           (with-new _ c.loop-id.ends.entries new c.add.ensures.entries))
           c.loop-id.invariant.listed;
       count =
+          let before = ap (λ es. length (ending (views_of es))) left in
+          let more = ending-more (session_in x) (views_of c.next.new.self) in
+          let one : one_if (is_ending (session_in x)) ≡ 1 =
+          ap (λ o. one_if (is_some o)) (sym c.in-Some-end.ensures) in
+          omega (arith, c.loop-id.invariant.count, c.add.ensures.entries.count, before, more, one);
+      fits =
           let longer = ap length left in
-          omega (arith, c.loop-id.invariant.count, c.add.ensures.entries.count);
+          omega (arith, c.loop-id.invariant.fits, c.add.ensures.entries.count);
       room = omega (arith, c.loop-id.invariant.room, c.add.ensures.room);
     }
 
@@ -36,8 +43,12 @@ loop-id-preserved c =
           (no-end c.loop-id.ends.entries (session_in x) c.in_default.ensures)
           c.loop-id.invariant.listed;
       count =
+          let before = ap (λ es. length (ending (views_of es))) left in
+          let more = ending-more (session_in x) (views_of c.next.new.self) in
+          omega (arith, c.loop-id.invariant.count, before, more);
+      fits =
           let longer = ap length left in
-          omega (arith, c.loop-id.invariant.count);
+          omega (arith, c.loop-id.invariant.fits);
       room = c.loop-id.invariant.room;
     }
 

@@ -2,7 +2,7 @@ use Rattle.std.proofs.Common.{sym, ◌∙◌, arith}
 use Rattle.std.specs.Rc.{rc_str_bytes}
 use Rattle.mq_sessions.specs.Dues.{Due}
 use Rattle.mq_sessions.proofs.EndLemmas.{listed-rest, shorter}
-use Rattle.mq_sessions.proofs.sessions.ends.drop_stale_ends.Goals as goal
+use Rattle.mq_sessions.proofs.sessions.index.drop_stale_ends.Goals as goal
 
 pub loop-end-preserved-else-has_end : goal.loop-end-preserved-else-has_end
 loop-end-preserved-else-has_end c =
