@@ -3,3 +3,4 @@ pub mod Lists
 pub mod Failures
 pub mod Notes
 pub mod Words
+pub mod Objects

@@ -4,6 +4,11 @@ use Rattle.std.specs.Str.{bytes_eq}
 use Rattle.mq_acl.specs.declared.access.Direction.{Direction}
 use Rattle.mq_acl.specs.declared.access.Direction.TheVariants.{Reading, Writing}
 
+-- the word for it
+abbrev pub access_text : Direction → List ℕ
+access_text Reading = codes "read"
+access_text Writing = codes "write"
+
 -- whether it is read or written; none where the word is unknown
 abbrev pub access_named : (word : List ℕ) → Option Direction
 access_named word =

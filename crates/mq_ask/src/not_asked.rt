@@ -1,4 +1,8 @@
 //! Users whom lines name, and about whom nothing is asked, in words and as JSON.
+ghost use Rattle.std.specs.Prelude.{◌≡◌, ◌++◌, OnOk, string_bytes};
+ghost use Rattle.mq_ask.specs.Objects.{not_asked_texts};
+ghost use Rattle.mq_print.specs.Lists.{lent_texts};
+
 use mq_print::{Datum, add_object};
 use std::alloc::{AllocError, Global};
 
@@ -22,7 +26,10 @@ pub fn add_not_asked_json(
     alloc: Global,
     text: &mut String,
     users: &[&str],
-) -> Result<(), AllocError> {
+) -> Result<(), AllocError>
+    ensures { OnOk result (string_bytes text.new
+        ≡ string_bytes text.old ++ not_asked_texts (lent_texts users.now)) }
+{
     for user in users {
         add_object(alloc, text, &[("not_asked", Datum::Text(*user))])?;
     }

@@ -3,6 +3,7 @@ ghost use Rattle.std.specs.Prelude.{◌≡◌, ◌++◌, ◌&&◌, OnOk, false, 
 ghost use Rattle.mq_acl.specs.Views.{row_views};
 ghost use Rattle.mq_acl.specs.declared.rules.Rules.TheVariants.{Own, Mosquitto};
 ghost use Rattle.mq_ask.specs.Notes.{by_mosquitto, limit_line};
+ghost use Rattle.mq_ask.specs.Objects.{limit_text};
 ghost use Rattle.mq_witness.specs.Ruled.{has_patterns};
 
 use mq_acl::{Row, Rules};
@@ -85,6 +86,8 @@ pub fn add_who_limit(
     ensures own { OnOk result (rules ≡ Own → text.new ≡ text.old) }
     ensures words { OnOk result (rules ≡ Mosquitto → json ≡ false
         → string_bytes text.new ≡ string_bytes text.old ++ limit_line) }
+    ensures object { OnOk result (rules ≡ Mosquitto → json ≡ true
+        → string_bytes text.new ≡ string_bytes text.old ++ limit_text) }
 {
     add_limit_if(alloc, text, rules == Rules::Mosquitto, json)
 }
@@ -99,6 +102,8 @@ pub fn add_limit_if(
     ensures whole { OnOk result (is_limited ≡ false → text.new ≡ text.old) }
     ensures words { OnOk result (is_limited ≡ true → json ≡ false
         → string_bytes text.new ≡ string_bytes text.old ++ limit_line) }
+    ensures object { OnOk result (is_limited ≡ true → json ≡ true
+        → string_bytes text.new ≡ string_bytes text.old ++ limit_text) }
 {
     if !is_limited {
         return Ok(());

@@ -1,12 +1,13 @@
 //! Words for what is asked about, in texts and in JSON.
 ghost use Rattle.std.specs.Prelude.{◌≡◌, Some};
-ghost use Rattle.mq_ask.specs.Words.{access_named};
+ghost use Rattle.mq_ask.specs.Words.{access_named, access_text};
 
 use mq_acl::{Direction, Rules};
 
 /// Whether it is read or written.
 pub fn access_word(direction: Direction) -> &'static str
-    ensures { access_named result.now ≡ Some direction }
+    ensures text { result.now ≡ access_text direction }
+    ensures named { access_named result.now ≡ Some direction }
 {
     match direction {
         Direction::Reading => "read",

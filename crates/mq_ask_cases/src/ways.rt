@@ -1,6 +1,6 @@
 //! What is gained and what is lost, and which of it is asked about.
 ghost use Rattle.std.specs.Prelude.{◌≡◌};
-ghost use Rattle.mq_ask_cases.specs.Ways.{is_way};
+ghost use Rattle.mq_ask_cases.specs.Ways.{is_way, way_text};
 
 use mq_differences::Way;
 
@@ -17,7 +17,9 @@ pub fn is_way(only: Option<Way>, way: Way) -> bool
 }
 
 /// Whether it is gained or lost.
-pub fn way_word(way: Way) -> &'static str {
+pub fn way_word(way: Way) -> &'static str
+    ensures { result.now ≡ way_text way }
+{
     match way {
         Way::Gained => "gained",
         Way::Lost => "lost",

@@ -32,6 +32,13 @@ first_grant rules rows client user topic direction =
     find (λ row. concerns_by rules client (user_by rules user) topic (row_view row)
     && grants direction (row_view row).access) (judges rules direction rows)
 
+-- the line that decides, if one does
+abbrev pub deciding_line : Reason → Option ℕ
+deciding_line (Deny line) = Some line
+deciding_line (Grant line) = Some line
+deciding_line NoGrant = None
+deciding_line Broker = None
+
 -- a row that denies, or one that grants
 abbrev pub reason_by : Option Row → Reason
 reason_by None = NoGrant

@@ -1,6 +1,6 @@
 ghost use Rattle.std.specs.Prelude.{◌≡◌};
 ghost use Rattle.std.specs.Option.{option_copied};
-ghost use Rattle.mq_differences.specs.Reasons.{reason_by, reason_of};
+ghost use Rattle.mq_differences.specs.Reasons.{deciding_line, reason_by, reason_of};
 
 use crate::decision::Request;
 use mq_acl::{Row, is_deny, refuses};
@@ -20,7 +20,9 @@ pub enum Reason {
 
 impl Reason {
     /// The line that decides, if one does.
-    pub fn line(self) -> Option<u64> {
+    pub fn line(self) -> Option<u64>
+        ensures { result ≡ deciding_line self }
+    {
         match self {
             Reason::Deny(line) | Reason::Grant(line) => Some(line),
             Reason::NoGrant | Reason::Broker => None,

@@ -1,4 +1,12 @@
 //! JSON objects, one a line.
+ghost use Rattle.std.specs.Prelude.{◌≡◌, ◌++◌, IfOk, OnOk, map, string_bytes};
+ghost use Rattle.serde_json.specs.Data.{array, no_members, put, string};
+ghost use Rattle.serde_json.specs.View.{items_of, members_view, view};
+ghost use Rattle.mq_print.specs.Objects.{datum_data, exception_data, line_data, object_text};
+ghost use Rattle.mq_print.specs.Objects.{text_data, with_data};
+ghost use Rattle.mq_print.specs.Lists.{line_view};
+ghost use Rattle.std.specs.Option.{option_copied, option_map};
+
 use crate::escape::{Escape, shown_lines};
 use crate::list::Line;
 use serde_json::{Map, Value};
@@ -38,7 +46,10 @@ pub enum Datum<'a> {
     Exceptions(&'a [Exception<'a>]),
 }
 
-fn texts_value(alloc: Global, texts: &[String]) -> Result<Value, AllocError> {
+fn texts_value(alloc: Global, texts: &[String]) -> Result<Value, AllocError>
+    ensures { IfOk result (λ value. view value
+        ≡ array (items_of (map (λ text. string (string_bytes text)) texts.now))) }
+{
     let mut values = Vec::new(alloc);
     for text in texts {
         values.push(Value::try_from_str(alloc, text.as_str())?)?;
@@ -51,7 +62,10 @@ fn put(
     members: &mut Map<String, Value>,
     name: &str,
     value: Value,
-) -> Result<(), AllocError> {
+) -> Result<(), AllocError>
+    ensures { OnOk result (members_view members.new.entries
+        ≡ put name.now (view value) (members_view members.old.entries)) }
+{
     let name = String::from_str(alloc, name)?;
     members.insert(name, value)?;
     Ok(())
@@ -62,12 +76,18 @@ fn put_text(
     members: &mut Map<String, Value>,
     name: &str,
     text: &str,
-) -> Result<(), AllocError> {
+) -> Result<(), AllocError>
+    ensures { OnOk result (members_view members.new.entries
+        ≡ put name.now (string text.now) (members_view members.old.entries)) }
+{
     let text = Value::try_from_str(alloc, text)?;
     put(alloc, members, name, text)
 }
 
-fn line_or_null(alloc: Global, line: Option<Line<'_>>) -> Result<Value, AllocError> {
+fn line_or_null(alloc: Global, line: Option<Line<'_>>) -> Result<Value, AllocError>
+    ensures { IfOk result (λ value. view value
+        ≡ line_data (option_map line_view line.entry)) }
+{
     let Some(line) = line else {
         return Ok(Value::Null);
     };
@@ -78,14 +98,18 @@ fn line_or_null(alloc: Global, line: Option<Line<'_>>) -> Result<Value, AllocErr
     Ok(Value::Object(members))
 }
 
-fn text_or_null(alloc: Global, text: Option<&str>) -> Result<Value, AllocError> {
+fn text_or_null(alloc: Global, text: Option<&str>) -> Result<Value, AllocError>
+    ensures { IfOk result (λ value. view value ≡ text_data (option_copied text.entry)) }
+{
     match text {
         Some(text) => Value::try_from_str(alloc, text),
         None => Ok(Value::Null),
     }
 }
 
-fn exception_value(alloc: Global, exception: &Exception<'_>) -> Result<Value, AllocError> {
+fn exception_value(alloc: Global, exception: &Exception<'_>) -> Result<Value, AllocError>
+    ensures { IfOk result (λ value. view value ≡ exception_data exception.now) }
+{
     let line = line_or_null(alloc, exception.line)?;
     let user = text_or_null(alloc, exception.user)?;
     let mut members = Map::new(alloc);
@@ -96,7 +120,10 @@ fn exception_value(alloc: Global, exception: &Exception<'_>) -> Result<Value, Al
     Ok(Value::Object(members))
 }
 
-fn exceptions_value(alloc: Global, all: &[Exception<'_>]) -> Result<Value, AllocError> {
+fn exceptions_value(alloc: Global, all: &[Exception<'_>]) -> Result<Value, AllocError>
+    ensures { IfOk result (λ value. view value
+        ≡ array (items_of (map exception_data all.now))) }
+{
     let mut values = Vec::new(alloc);
     for exception in all {
         values.push(exception_value(alloc, exception)?)?;
@@ -104,7 +131,9 @@ fn exceptions_value(alloc: Global, all: &[Exception<'_>]) -> Result<Value, Alloc
     Ok(Value::Array(values))
 }
 
-fn datum_value(alloc: Global, datum: Datum<'_>) -> Result<Value, AllocError> {
+fn datum_value(alloc: Global, datum: Datum<'_>) -> Result<Value, AllocError>
+    ensures { IfOk result (λ value. view value ≡ datum_data datum.entry) }
+{
     match datum {
         Datum::Text(text) | Datum::TextIf(Some(text)) => Value::try_from_str(alloc, text),
         Datum::Texts(texts) => texts_value(alloc, texts),
@@ -116,17 +145,29 @@ fn datum_value(alloc: Global, datum: Datum<'_>) -> Result<Value, AllocError> {
     }
 }
 
+// The members with these data under their names.
+fn members_of(alloc: Global, fields: &[(&str, Datum<'_>)]) -> Result<Map<String, Value>, AllocError>
+    ensures { IfOk result (λ members.
+        members_view members.entries ≡ with_data no_members fields.now) }
+{
+    let mut members = Map::new(alloc);
+    for (name, datum) in fields {
+        let value = datum_value(alloc, *datum)?;
+        put(alloc, &mut members, name, value)?;
+    }
+    Ok(members)
+}
+
 /// Adds an object of these data under their names, and a line feed. The only error is that memory is refused.
 pub fn add_object(
     alloc: Global,
     text: &mut String,
-    data: &[(&str, Datum<'_>)],
-) -> Result<(), AllocError> {
-    let mut members = Map::new(alloc);
-    for (name, datum) in data {
-        let value = datum_value(alloc, *datum)?;
-        put(alloc, &mut members, name, value)?;
-    }
+    fields: &[(&str, Datum<'_>)],
+) -> Result<(), AllocError>
+    ensures { OnOk result (string_bytes text.new
+        ≡ string_bytes text.old ++ object_text (with_data no_members fields.now)) }
+{
+    let members = members_of(alloc, fields)?;
     let line = Value::Object(members).to_string(alloc)?;
     let shown = shown_lines(alloc, line.as_str(), Escape::Json)?;
     text.push_str(shown.as_str())?;
