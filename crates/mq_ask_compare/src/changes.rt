@@ -1,4 +1,9 @@
 //! Where two lists differ, in words and as JSON.
+ghost use Rattle.std.specs.List.{flat_map};
+ghost use Rattle.std.specs.Prelude.{◌≡◌, ◌++◌, IfOk, None, OnOk, string_bytes, true};
+ghost use Rattle.mq_ask_compare.specs.Changed.{change_text, changes_text};
+ghost use Rattle.mq_print.specs.Lists.{lent_texts, lines_view, list_view};
+
 use mq_acl::{Row, Rules};
 use mq_ask::{access_word, add_not_asked, add_not_asked_json, rules_owner};
 use mq_ask_cases::{
@@ -90,7 +95,11 @@ fn add_json<'a>(
     old: Lines<'a, 'a, 'a>,
     new: Lines<'a, 'a, 'a>,
     difference: &'a Difference,
-) -> Result<(), AllocError> {
+) -> Result<(), AllocError>
+    ensures { OnOk result (scope.entry.traffic ≡ None → string_bytes text.new
+        ≡ string_bytes text.old ++ change_text (lines_view old.entry) (lines_view new.entry)
+        difference.entry.now) }
+{
     let old_line = old.line_if(difference.old_reason.line());
     let new_line = new.line_if(difference.new_reason.line());
     let mut data = vec![in alloc;
@@ -115,7 +124,11 @@ fn json_lines(
     old: Lines<'_, '_, '_>,
     new: Lines<'_, '_, '_>,
     differences: &[Difference],
-) -> Result<String, AllocError> {
+) -> Result<String, AllocError>
+    ensures { IfOk result (λ text. scope.entry.traffic ≡ None → string_bytes text
+        ≡ changes_text (lines_view old.entry) (lines_view new.entry) differences.now
+        (lent_texts scope.entry.not_asked.now)) }
+{
     let mut text = String::new(alloc);
     for difference in differences {
         add_json(alloc, &mut text, scope, old, new, difference)?;
@@ -192,7 +205,11 @@ pub fn changes_text(
     new: ListText<'_, '_>,
     differences: Vec<Difference>,
     json: bool,
-) -> Result<String, AllocError> {
+) -> Result<String, AllocError>
+    ensures { IfOk result (λ text. json ≡ true → scope.entry.traffic ≡ None → string_bytes text
+        ≡ changes_text (list_view old.entry) (list_view new.entry) differences.items
+        (lent_texts scope.entry.not_asked.now)) }
+{
     let old_lines = lines_of(alloc, old.text)?;
     let new_lines = lines_of(alloc, new.text)?;
     let old = Lines {

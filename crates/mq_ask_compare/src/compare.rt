@@ -1,7 +1,7 @@
 //! The answer to `compare`.
 ghost use Rattle.std.specs.List.{filter, list_any};
 ghost use Rattle.std.specs.Prelude.{◌≡◌, ◌≢◌, ◌⊎◌, ◌++◌, ℕ, List, [], IfOk, IfErr, OnOk, false};
-ghost use Rattle.std.specs.Prelude.{string_bytes, true};
+ghost use Rattle.std.specs.Prelude.{None, string_bytes, true};
 ghost use Rattle.mq_acl.specs.Views.{row_views};
 ghost use Rattle.mq_acl.specs.declared.rules.Rules.TheVariants.{Own};
 ghost use Rattle.mq_ask.specs.Lists.{AreRows};
@@ -10,6 +10,8 @@ ghost use Rattle.mq_ask.specs.Statuses.{failure_status};
 ghost use Rattle.mq_ask_cases.specs.Ways.{is_way};
 ghost use Rattle.mq_ask_compare.specs.Compare.{AreChanges, IsCompared, SaysWhetherSame};
 ghost use Rattle.mq_ask_compare.specs.Compare.{AreLimited, IsComparisonFailure, are_limited};
+ghost use Rattle.mq_ask_compare.specs.Changed.{AreObjects, AreShown};
+ghost use Rattle.mq_print.specs.Lists.{list_view};
 ghost use Rattle.mq_differences.specs.Faults.{IsComparisonFault};
 ghost use Rattle.mq_who.specs.Unasked.{has_text, is_not_compared};
 
@@ -211,6 +213,9 @@ fn answer_text(
     ensures limited { IfOk result (λ text. are_limited options.rules (row_views changes.old.items)
         (row_views changes.new.items) ≡ true → options.json ≡ false
         → EndsWithLimit (string_bytes text)) }
+    ensures objects { IfOk result (λ text. options.json ≡ true → script.entry ≡ None
+        → AreObjects options.rules only (list_view lists.entry.0) (list_view lists.entry.1) changes
+        (string_bytes text)) }
 {
     let (old, new, differences) = changes.into_parts();
     let not_asked = users_not_compared(alloc, options.rules, &old, &new)?;
@@ -254,6 +259,9 @@ pub fn show_changes<'a, W: Write>(
     ensures unread { IfErr result (λ failure. failure_status failure ≡ 2 → out.new ≡ out.old) }
     ensures limited { OnOk result (AreLimited options.rules old.entry.text.now new.entry.text.now
         → options.json ≡ false → SaysLimit (W.contents out.old) (W.contents out.new)) }
+    ensures json { OnOk result (options.json ≡ true → script.entry ≡ None
+        → AreShown options.rules only old.entry new.entry
+        (W.contents out.old) (W.contents out.new)) }
     ensures quiet { OnOk result (options.rules ≡ Own → notes.new ≡ notes.old) }
 {
     check_taken(alloc, old)?;

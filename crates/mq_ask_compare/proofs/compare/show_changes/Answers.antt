@@ -29,3 +29,14 @@ returns-clause-limited g c =
       c.in_ok-text.ensures.limited (limited_of c.args.options.rules c.args.old.text.now
           c.args.new.text.now c.in_ok-changes.changes c.in_ok-changes.ensures.ok limited) words,
     )) c.print_outcome.ensures.printed
+
+pub returns-clause-json : goal.returns-clause-json
+returns-clause-json g c =
+    on_ok_weaker c.print_outcome.result
+    (λ written. λ json none. record {
+      changes = c.in_ok-changes.changes;
+      are = c.in_ok-changes.ensures.ok;
+      text = string_bytes c.in_ok-text.text;
+      objects = c.in_ok-text.ensures.objects json none;
+      written = written;
+    }) c.print_outcome.ensures.printed
