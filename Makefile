@@ -1,6 +1,7 @@
 # all, or make alone: proves mqroute and mqroute-acl with what they stand on, side by side, builds them, and puts them and the
 # tools into bin/.
-# run: shows answers at once, with the programs of bin/ or without a proof. SCRIPT=mine.jsonl ACL=mine.acl: of one's own.
+# run: shows answers at once, with the programs of bin/ or without a proof. SCRIPT=mine.jsonl ACL=mine.acl: of one's own;
+# LOG=mosquitto.log CURRENT=current.acl PROPOSED=proposed.acl: of a day's log under two lists.
 # check: all that needs no proof, with the programs of bin/, side by side.
 # test: the gate: rules of the sources, every proof from nothing, the must-fail edits, the tests, then all of check, and each
 # growth of memory refused in turn.
@@ -32,7 +33,8 @@ all:
 	dev/build.py
 
 run: mended
-	@dev/first_answers.py --acl "$(ACL)" $(if $(SCRIPT),"$(SCRIPT)")
+	@dev/first_answers.py --acl "$(ACL)" --log "$(LOG)" --current "$(CURRENT)" --proposed "$(PROPOSED)" \
+	    $(if $(SCRIPT),"$(SCRIPT)")
 
 check: programs
 	$(MAKE) --no-print-directory --output-sync=target --jobs=$$(nproc) $(CHECKS:%=check-%)

@@ -191,6 +191,10 @@ def main():
     parser.add_argument("--of-gate", action="store_true",
                         help="only put into bin/ what the gate (`rt ci`) has built in this clone")
     if not parser.parse_args().of_gate:
+        if shutil.which("rt") is None:
+            print("build: rt isn't on the PATH: the Rattle toolchain proves and builds the "
+                  "programs. `make run` answers without it, unproved", file=sys.stderr)
+            return 2
         return build()
     if not take_programs(TOP):
         print("build: the gate has not built the programs here", file=sys.stderr)

@@ -62,6 +62,13 @@ def started(top, ends, step=":", kept="is kept beside the kit"):
                             preexec_fn=lambda: signal.signal(signal.SIGINT, signal.SIG_DFL))
 
 
+def check_without_toolchain(top):
+    done = subprocess.run([sys.executable, "dev/build.py"], cwd=top, env={"PATH": ""}, text=True,
+                          capture_output=True)
+    assert (done.returncode, done.stdout) == (2, ""), done
+    assert done.stderr.startswith("build: rt isn't on the PATH: "), done.stderr
+
+
 def ended(*words):
     process = started(*words)
     out, err = process.communicate(timeout=60)
@@ -110,6 +117,7 @@ def main():
     with tempfile.TemporaryDirectory() as name:
         lay_out(pathlib.Path(name))
         check(pathlib.Path(name))
+        check_without_toolchain(pathlib.Path(name))
     print("build: ok")
 
 

@@ -45,6 +45,32 @@ class WithoutToolchain(unittest.TestCase):
         self.assertEqual(done.returncode, 0, done.stderr)
         self.assertEqual(len(done.stdout.splitlines()), 2)
 
+    def test_own_day(self):
+        """By mosquitto's rules, as far as there are programs."""
+        log = self.top / "mosquitto.log"
+        log.write_text("".join(f"{second}: {said}\n" for second, said in enumerate((
+            "mosquitto version 2.0.11 starting",
+            "New client connected from 127.0.0.1:1 as a (p2, c1, k60, u'ops').",
+            "Sending CONNACK to a (0, 0)",
+            "Received SUBSCRIBE from a", "\tcmd/# (QoS 0)", "a 0 cmd/#", "Sending SUBACK to a",
+            "New client connected from 127.0.0.1:2 as b (p2, c1, k60).",
+            "Sending CONNACK to b (0, 0)",
+            "Received PUBLISH from b (d0, q0, r0, m0, 'cmd/x', ... (1 bytes))",
+            "Sending PUBLISH to a (d0, q0, r0, m0, 'cmd/x', ... (1 bytes))"), 1_700_000_000)))
+        current, proposed = self.top / "current.acl", self.top / "proposed.acl"
+        current.write_text("topic readwrite cmd/#\nuser ops\ntopic read cmd/#\n")
+        proposed.write_text("topic readwrite cmd/#\nuser ops\ntopic read log/#\n")
+        done = self.run_it("--log", str(log), "--current", str(current),
+                           "--proposed", str(proposed))
+        self.assertEqual(done.returncode, 0, done.stderr)
+        self.assertIn("who loses which messages", done.stderr)
+        self.assertRegex(done.stdout, r"\na +cmd/x +1 +0 ")
+
+    def test_half_a_day(self):
+        done = self.run_it("--log", "mosquitto.log", "--current", "current.acl")
+        self.assertEqual((done.returncode, done.stdout), (2, ""))
+        self.assertIn("LOG=, CURRENT= and PROPOSED= go together", done.stderr)
+
     def test_no_such_file(self):
         done = self.run_it("nowhere.jsonl")
         self.assertEqual(done.returncode, 2)

@@ -116,13 +116,14 @@ def show_help(name: str) -> int:
 def pass_on(name: str, given: list[str]) -> NoReturn:
     """The program takes the place of this process: its answers and its status are the answer."""
     from .common.exit_status import Fault
+    from .common.programs import cannot_run
     one = PASSED_ON[name]
     path = one.path()
     signal.signal(signal.SIGPIPE, signal.SIG_DFL)  # as the shell has it, and Python doesn't
     try:
         os.execvp(path, [path, *one.words, *given])
     except OSError as fault:
-        raise Fault(f"cannot run {path}: {fault.strerror}") from fault
+        raise Fault(cannot_run(path, fault)) from fault
 
 
 def no_such(name: str) -> str:

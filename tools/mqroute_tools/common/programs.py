@@ -28,6 +28,14 @@ def find_program(variable: str, name: str) -> str:
     return existing_program(variable, name) or name
 
 
+def cannot_run(program: str, fault: OSError) -> str:
+    """Why a program can't be run, and how to have it where it was looked for on the PATH."""
+    said = f"cannot run {program}: {fault.strerror}"
+    if isinstance(fault, FileNotFoundError) and "/" not in program:
+        said += ": `make` builds it, and a package has it (README.md)"
+    return said
+
+
 def on_one_line(said: bytes) -> str:
     """What a program wrote to standard error."""
     return "; ".join(lines(said.decode("utf-8", "replace").strip()))
@@ -48,7 +56,7 @@ def output_of(words: list[str], named: Callable[[str], str] = str,
     try:
         done = subprocess.run(words, stdout=out, stderr=subprocess.PIPE, input=given)
     except OSError as fault:
-        raise Fault(f"cannot run {words[0]}: {fault.strerror}") from fault
+        raise Fault(cannot_run(words[0], fault)) from fault
     if done.returncode not in statuses:
         raise no_answer(words[0], done.returncode, named(on_one_line(done.stderr)))
     return done

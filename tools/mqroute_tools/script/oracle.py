@@ -10,7 +10,8 @@ from pathlib import Path
 from typing import IO
 
 from ..common.exit_status import Fault
-from ..common.programs import existing_program, find_program, no_answer, on_one_line
+from ..common.programs import (
+    cannot_run, existing_program, find_program, no_answer, on_one_line)
 from ..plain.reader import Reader
 from ..plain.world import FaultyList
 from .output import Answer, Block, Command, blocks_of
@@ -63,7 +64,7 @@ def each_answer(words: list[str], script: Iterable[bytes], first: int = 1) -> It
         try:
             done = subprocess.run(words, stdin=given, stdout=written, stderr=subprocess.PIPE)
         except OSError as fault:
-            raise Fault(f"cannot run {words[0]}: {fault.strerror}") from fault
+            raise Fault(cannot_run(words[0], fault)) from fault
         if done.returncode not in (0, 1):
             raise no_answer("mqroute", done.returncode, on_one_line(done.stderr))
         written.seek(0)
@@ -211,7 +212,7 @@ class Oracle:
                 self.conversation = (PlainConversation(self.reader()) if self.is_plain
                                      else Conversation(self.words))
             except OSError as fault:
-                raise OracleFault(f"cannot run {self.words[0]}: {fault.strerror}") from fault
+                raise OracleFault(cannot_run(self.words[0], fault)) from fault
         return self.conversation.block(json.dumps(command) + "\n").answers()
 
     def run(self, commands: Iterable[Command]) -> list[list[Answer]]:
