@@ -15,6 +15,7 @@ from faults import status_of
 TOP = pathlib.Path(__file__).resolve().parent.parent
 LINK = re.compile(r"\]\(([^)\s]+)\)")
 HEADING = re.compile(r"^#+ (.*)$", re.M)
+NAMED = re.compile(r'<a id="([^"]+)"></a>')
 
 
 def pages():
@@ -24,10 +25,11 @@ def pages():
 
 
 def anchors(page):
-    """The headings as links name them: in small letters, without marks, a - for each blank."""
+    """The headings as links name them: in small letters, without marks, a - for each blank. And
+    what is named for links."""
     text = re.sub(r"^```.*?^```$", "", page.read_text(encoding="utf-8"), flags=re.S | re.M)
     return {re.sub(r"[^\w\- ]", "", heading.lower()).replace(" ", "-")
-            for heading in HEADING.findall(text)}
+            for heading in HEADING.findall(text)} | set(NAMED.findall(text))
 
 
 def target_of(page, link):
