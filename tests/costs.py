@@ -9,7 +9,7 @@ of them are shown.
   takes beside 100: no walk over sessions, trees or lists, and no index that is made anew.
 - What a command concerns takes a bounded number of instructions and bytes for each, among so many
   that a look at all before it takes more.
-- What is kept takes a bounded number of bytes for each.
+- What is kept takes a bounded number of bytes for each, and so does what stays of what is gone.
 - The copies of a message share its payload and its topic.
 - Commands that end things take no memory for it.
 - Commands that concern many thousands of things aren't refused for want of memory.
@@ -126,12 +126,12 @@ def long_text(counter, text, name, script, copies, most):
     return [for_each(f"{name} with a long {text}", "long_blocks", few, many, COPIES, most)]
 
 
-def kept(counter, kind, most):
-    """What each thing of a kind takes, while it is kept and while it comes."""
+def kept(counter, what, kind, most):
+    """What each thing of a kind takes while it is kept and while it comes, or what stays of it."""
     few, many = (counter.run([scripts.line("connect", "client-0"), *scripts.THINGS[kind](n)],
                              rows=scripts.access_list(n) if "list" in kind else None,
                              options=scripts.options([kind], n)).before for n in (KEPT, 2 * KEPT))
-    return [for_each(kind, "room", few, many, KEPT, most)]
+    return [for_each(kind, what, few, many, KEPT, most)]
 
 
 def start(counter):
@@ -154,7 +154,8 @@ def parts():
     yield from ((stepped, one) for one in concerned.CONCERNS)
     yield from ((concern, one) for one in concerned.CONCERNS if one.bounds)
     yield from ((long_text, *one) for one in concerned.LONG_TEXTS)
-    yield from ((kept, *one) for one in concerned.KEPT.items())
+    yield from ((kept, "room", *one) for one in concerned.KEPT.items())
+    yield from ((kept, "held", *one) for one in concerned.LEFT.items())
     yield from ((large, one) for one in {one.script: one for one in concerned.CONCERNS}.values())
 
 

@@ -110,13 +110,6 @@ def ends(n):
     return before, line("advance", seconds=1)
 
 
-def counted(n):
-    """So many subscriptions and messages, and their count, which walks over them."""
-    before = [line("connect", "client-0"), *(subscribe(f"site/{i}") for i in range(n)),
-              *(retain(f"kept/{i}") for i in range(n))]
-    return before, line("stat")
-
-
 def each(n):
     return n
 
@@ -172,7 +165,6 @@ CONCERNS = [
     Concern("a disconnect that ends subscriptions", own_subscriptions, none, 100, 4_500,
             {"blocks": 0}),
     Concern("an advance that ends sessions and messages", ends, none, 50, 16_000, {"blocks": 0}),
-    Concern("a stat of subscriptions and messages", counted, none, 500, 450, {"blocks": 0}),
 ]
 
 # How many blocks of the length of a long text each copy may take. The text that is printed is one.
@@ -193,10 +185,13 @@ LARGE = {receivers: 20_000, colleagues: 20_000, mixed_colleagues: 20_000,
          marked_colleagues: 20_000, sleepers: 20_000, served_groups: 20_000, members: 20_000,
          shared: 20_000,
          matching_filters: 16_384, retained: 100_000, waiting: 100_000, rows: 40_000,
-         own_subscriptions: 20_000, ends: 20_000, counted: 20_000}
+         own_subscriptions: 20_000, ends: 20_000}
 
 # How many bytes each thing takes that is kept, some twice of what it takes: with the tables that it
 # stands in, which double at times, and two levels of the tree of its own.
 KEPT = {"sessions connected": 500, "sessions away": 600, "clients that came back": 700,
         "subscriptions": 2_500, "groups": 5_000, "members of a group that are away": 1_300,
         "retained messages": 700, "waiting copies": 500, "users of the access list": 6_500}
+
+# How many bytes stay of each thing that is gone: room in the index of ends, and no id.
+LEFT = {"clients that are gone": 250}

@@ -39,10 +39,18 @@ def sessions_away(n):
 
 
 def clients_that_came_back(n):
-    """The index of ends still has the ends that their sessions had."""
+    """Their sessions had ends, and have none any more."""
     return [part for i in range(n) for part in
             (*away(f"again-{i}", LATER + i),
              line("connect", f"again-{i}", clean=False, session_expiry=LATER))]
+
+
+def clients_that_are_gone(n):
+    """They were away at once, and came back for good. Their ids are long."""
+    ids = [f"{i}-{'x' * 300}" for i in range(n)]
+    return [*(part for client in ids for part in away(client, LATER)),
+            *(part for client in ids for part in
+              (line("connect", client), line("disconnect", client)))]
 
 
 def subscriptions(n):
@@ -84,7 +92,8 @@ def users_of_a_list(n):
 
 
 THINGS = {"sessions connected": sessions_connected, "sessions away": sessions_away,
-          "clients that came back": clients_that_came_back, "subscriptions": subscriptions,
+          "clients that came back": clients_that_came_back,
+          "clients that are gone": clients_that_are_gone, "subscriptions": subscriptions,
           "groups": groups, "members of a group that are away": members_away,
           "retained messages": retained_messages, "waiting copies": waiting_copies,
           "siblings": siblings,
@@ -170,6 +179,7 @@ COMMANDS = [
     Command("an advance that ends nothing", lambda i: line("advance", seconds=0), 0, 0),
     Command("an advance that ends a session and a message",
             lambda i: line("advance", seconds=1), 0, 0),
+    Command("a stat", lambda i: line("stat"), 0, 0),
     Command("a line that is no JSON", lambda i: b"[\n", 0, "BadJson"),
     Command("a connect with an empty id", lambda i: line("connect", ""), 0, "ClientId"),
     Command("a disconnect of nobody", lambda i: line("disconnect", "no"), 0, "NotConnected"),
