@@ -14,6 +14,8 @@ from counted_publishes import faults_of_counts
 from plain_lists import (
     MosquittoRules, OwnRules, accesses, allowed, deciding, filter_matches, has_patterns, limits_of,
     rows_of)
+from shown_differences import faults_of_placeholders, faults_of_shown, line_of
+from worded_differences import words_of
 
 PROGRAM = pathlib.Path(__file__).resolve().parent.parent / "bin/mqroute-acl"
 
@@ -73,22 +75,6 @@ def near(chance, lines):
     return lines
 
 
-def faults_of_shown(rules, shown, old, new):
-    """What is wrong with a difference that is shown."""
-    client, user, topic, access = shown["client"], shown["user"], shown["topic"], shown["access"]
-    by_old, by_new = (allowed(rules, rows, client, user, topic, access) for rows in (old, new))
-    if (by_old, by_new) != ((False, True) if shown["change"] == "gained" else (True, False)):
-        yield "is none"
-    for rows, line in ((old, shown["old"]), (new, shown["new"])):
-        row, _ = deciding(rules, rows, client, user, topic, access)
-        if line_of(line) != number_of(row):
-            yield f"is decided by {row}"
-
-
-def line_of(line):
-    return line and line["line"]
-
-
 def limit_of(name, rows):
     """What is noted by mosquitto's rules of a list with pattern lines, of which there are few."""
     numbers = [str(row.number) for row in rows if row.is_pattern]
@@ -116,11 +102,15 @@ def faults_of_compare(rules, folder, old, new):
         yield f"{shown} doesn't say for whom"
     shown = shown[:len(shown) - len(limits)]
     for difference in shown:
-        for fault in faults_of_shown(rules, difference, old_rows, new_rows):
+        for fault in (*faults_of_shown(rules, difference, old_rows, new_rows),
+                      *faults_of_placeholders(rules, difference, old_rows, new_rows)):
             yield f"{difference} {fault}"
     if done.returncode != (1 if shown else 0):
         yield f"status {done.returncode}"
     yield from faults_of_noted(rules, done.stderr, {"old.acl": old_rows, "new.acl": new_rows})
+    worded = run(["compare", *rules.words, "old.acl", "new.acl"], folder).stdout
+    if shown and worded != words_of(rules, shown, bool(limits)):
+        yield f"is worded otherwise than {shown}: {worded}"
     for way in ("gained", "lost"):
         done = run(["compare", *rules.words, "--json", "--only", way, "old.acl", "new.acl"], folder)
         wanted = [each for each in shown if each["change"] == way]
