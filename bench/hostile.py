@@ -169,7 +169,7 @@ def deep_list(n):
 
 
 def stats(n):
-    """n subscriptions, and n times stat, which looks at each"""
+    """n subscriptions, and n times stat"""
     yield line("connect", "p")
     for i in range(n):
         yield line("subscribe", "p", filter=f"a/{i}")
