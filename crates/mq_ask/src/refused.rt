@@ -1,4 +1,7 @@
 //! What mosquitto refuses by itself, in words and as JSON.
+ghost use Rattle.std.specs.Prelude.{◌≡◌, ◌++◌, OnOk, string_bytes};
+ghost use Rattle.mq_ask.specs.Objects.{refused_texts};
+
 use crate::words::access_word;
 use mq_acl::Direction;
 use mq_print::{Datum, add_object};
@@ -31,7 +34,10 @@ pub fn add_refused_json(
     alloc: Global,
     text: &mut String,
     directions: &[Direction],
-) -> Result<(), AllocError> {
+) -> Result<(), AllocError>
+    ensures { OnOk result (string_bytes text.new
+        ≡ string_bytes text.old ++ refused_texts directions.now) }
+{
     for direction in directions {
         let access = Datum::Text(access_word(*direction));
         add_object(alloc, text, &[("refused", access)])?;

@@ -17,6 +17,10 @@ use Rattle.mq_print.specs.declared.json.Exception.{Exception}
 abbrev pub whole_data : ℕ → Data
 whole_data n = number (unsigned n)
 
+abbrev pub number_data : Option ℕ → Data
+number_data None = null
+number_data (Some n) = whole_data n
+
 abbrev pub text_data : Option (List ℕ) → Data
 text_data None = null
 text_data (Some text) = string text
@@ -44,8 +48,7 @@ datum_data (datum.TextIf text) = text_data (option_copied text)
 datum_data (datum.Texts texts) =
     array (items_of (map (λ text. string (string_bytes text)) texts.now))
 datum_data (datum.Number n) = whole_data n
-datum_data (datum.NumberIf None) = null
-datum_data (datum.NumberIf (Some n)) = whole_data n
+datum_data (datum.NumberIf n) = number_data n
 datum_data (datum.Flag flag) = boolean flag
 datum_data (datum.LineIf line) = line_data (option_map line_view line)
 datum_data (datum.Exceptions all) = array (items_of (map exception_data all.now))
