@@ -1,2 +1,3 @@
 pub mod QuestionLemmas
 pub mod AnswerLemmas
+pub mod ExplainedLemmas

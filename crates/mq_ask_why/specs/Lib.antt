@@ -2,3 +2,4 @@ pub mod Why
 pub mod Questions
 pub mod Texts
 pub mod Answers
+pub mod Explained

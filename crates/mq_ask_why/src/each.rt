@@ -1,8 +1,9 @@
 //! The answers to the questions of a file, one a line.
-ghost use Rattle.std.specs.Prelude.{◌≡◌, ◌⊎◌, List, ℕ, IfErr, IfOk};
+ghost use Rattle.std.specs.Prelude.{◌≡◌, ◌⊎◌, List, ℕ, IfErr, IfOk, OnOk};
 ghost use Rattle.mq_ask.specs.Failures.{IsListFailure};
 ghost use Rattle.mq_ask.specs.Statuses.{failure_status};
 ghost use Rattle.mq_ask_why.specs.Answers.{AreAnswers, AreAnswered, IsQuestionFailure};
+ghost use Rattle.mq_ask_why.specs.Explained.{AreShown};
 ghost use Rattle.mq_ask_why.specs.Questions.{numbered_views, questions_of};
 
 use crate::answers::{Answer, answers};
@@ -46,9 +47,11 @@ pub fn show_each<'a, W: Write>(
     ensures ok { IfOk result
         (AreAnswered options.rules list.entry.text.now questions.entry.text.now) }
     ensures unread { IfErr result (λ failure. failure_status failure ≡ 2 → out.new ≡ out.old) }
+    ensures json { OnOk result (AreShown options.rules list.entry questions.entry.text.now
+        (W.contents out.old) (W.contents out.new)) }
 {
     let lines = read_questions(alloc, questions.text)?;
     let answers = explain_each(alloc, options.rules, list, questions.file, lines.as_slice())?;
-    let text = answers_text(alloc, list, answers.as_slice());
-    print_outcome(out, text, Outcome::Clear)
+    let text = answers_text(alloc, list, answers.as_slice())?;
+    print_outcome(out, Ok(text), Outcome::Clear)
 }

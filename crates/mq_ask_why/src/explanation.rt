@@ -1,4 +1,9 @@
 //! Which lines decide whether a client may read and write a topic, in words and as JSON.
+ghost use Rattle.std.specs.Prelude.{◌≡◌, ◌++◌, IfOk, OnOk, string_bytes, true};
+ghost use Rattle.mq_ask_why.specs.Explained.{answers_text, deny_line, explanation_text};
+ghost use Rattle.mq_ask_why.specs.Explained.{verdict_text};
+ghost use Rattle.mq_print.specs.Lists.{lines_view, list_view};
+
 use crate::answers::Answer;
 use mq_acl::Direction;
 use mq_ask::{AskedClient, access_word, add_client, refused_words};
@@ -46,17 +51,27 @@ fn add_words(
     }
 }
 
+// The line that denies it, if one does.
+fn deny_line(reason: Reason) -> Option<u64>
+    ensures { result ≡ deny_line reason }
+{
+    match reason {
+        Reason::Deny(line) => Some(line),
+        _ => None,
+    }
+}
+
 fn add_json<'a>(
     alloc: Global,
     text: &mut String,
     list: Lines<'a, 'a, 'a>,
     direction: Direction,
     verdict: Verdict,
-) -> Result<(), AllocError> {
-    let deny = match verdict.reason {
-        Reason::Deny(line) => Some(line),
-        _ => None,
-    };
+) -> Result<(), AllocError>
+    ensures { OnOk result (string_bytes text.new
+        ≡ string_bytes text.old ++ verdict_text (lines_view list.entry) direction verdict) }
+{
+    let deny = deny_line(verdict.reason);
     let mut data = vec![in alloc;
         ("access", Datum::Text(access_word(direction))),
         ("allowed", Datum::Flag(verdict.is_allowed())),
@@ -91,7 +106,10 @@ fn json_text(
     list: ListText<'_, '_>,
     reading: Verdict,
     writing: Verdict,
-) -> Result<String, AllocError> {
+) -> Result<String, AllocError>
+    ensures { IfOk result (λ text. string_bytes text
+        ≡ explanation_text (list_view list.entry) reading writing) }
+{
     let lines = lines_of(alloc, list.text)?;
     let list = Lines {
         file: list.file,
@@ -108,7 +126,10 @@ pub(crate) fn answers_text(
     alloc: Global,
     list: ListText<'_, '_>,
     answers: &[Answer<'_>],
-) -> Result<String, AllocError> {
+) -> Result<String, AllocError>
+    ensures { IfOk result (λ text. string_bytes text
+        ≡ answers_text (list_view list.entry) answers.now) }
+{
     let lines = lines_of(alloc, list.text)?;
     let list = Lines {
         file: list.file,
@@ -136,7 +157,10 @@ pub fn explanation_text(
     reading: Verdict,
     writing: Verdict,
     json: bool,
-) -> Result<String, AllocError> {
+) -> Result<String, AllocError>
+    ensures { IfOk result (λ text. json ≡ true → string_bytes text
+        ≡ explanation_text (list_view list.entry) reading writing) }
+{
     if json {
         return json_text(alloc, list, reading, writing);
     }

@@ -1,9 +1,10 @@
 //! The answer to `why`.
 ghost use Rattle.std.specs.Option.{option_copied};
-ghost use Rattle.std.specs.Prelude.{◌≡◌, ◌⊎◌, ℕ, List, Option, IfOk, IfErr, false, true};
+ghost use Rattle.std.specs.Prelude.{◌≡◌, ◌⊎◌, ℕ, List, Option, IfOk, IfErr, OnOk, false, true};
 ghost use Rattle.mq_acl.specs.declared.rules.Rules.{Rules};
 ghost use Rattle.mq_ask.specs.Failures.{IsListFailure};
 ghost use Rattle.mq_ask.specs.Statuses.{failure_status};
+ghost use Rattle.mq_ask_why.specs.Explained.{IsShown};
 ghost use Rattle.mq_ask_why.specs.Why.{Explains, IsExplained, IsTopicFailure};
 ghost use Rattle.mq_differences.specs.Reasons.{is_grant};
 
@@ -111,6 +112,9 @@ pub fn show_why<'a, W: Write>(
     ensures ok { IfOk result (IsExplained options.rules may list.entry.text.now client.entry.id.now
         (option_copied client.entry.user) topic.entry.now) }
     ensures unread { IfErr result (λ failure. failure_status failure ≡ 2 → out.new ≡ out.old) }
+    ensures json { OnOk result (options.json ≡ true → IsShown options.rules list.entry
+        client.entry.id.now (option_copied client.entry.user) topic.entry.now
+        (W.contents out.old) (W.contents out.new)) }
 {
     let explanation = explain(alloc, options.rules, list, client, topic)?;
     let outcome = outcome_of(&explanation, may);
@@ -121,6 +125,6 @@ pub fn show_why<'a, W: Write>(
         note: note.as_str(),
     };
     let Explanation { reading, writing } = explanation;
-    let text = explanation_text(alloc, list, asked, reading, writing, options.json);
-    print_outcome(out, text, outcome)
+    let text = explanation_text(alloc, list, asked, reading, writing, options.json)?;
+    print_outcome(out, Ok(text), outcome)
 }
