@@ -1,1 +1,2 @@
 pub mod LintLemmas
+pub mod ObjectLemmas

@@ -47,6 +47,7 @@ pub record IsNeedlessIn (rules : Rules) (text : List ℕ) (shown : List Remark) 
 pub record AreRemarks (rules : Rules) (text : List ℕ) (r : Remarks) : Type 0 where
   pub odd : r.odd.items ≡ remarks_of rules text
   pub none : has_fault r.odd.items ≡ true → r.needless.items ≡ []
+  pub no_rows : has_fault r.odd.items ≡ true → r.rows.items ≡ []
   pub rows : has_fault r.odd.items ≡ false → AreRows rules text r.rows.items
   pub all : has_fault r.odd.items ≡ false → IsNeedlessIn rules text r.needless.items
   pub empty : r.is_empty ≡ true → rows_by rules text ≡ Ok []

@@ -1,11 +1,17 @@
 //! The answer to `lint`.
 ghost use Rattle.std.specs.Prelude.{◌≡◌, ◌≢◌, ◌⊎◌, ℕ, List, [], IfOk, IfErr, OnOk, true, false};
 ghost use Rattle.mq_acl.specs.declared.rules.Rules.TheVariants.{Own};
+ghost use Rattle.std.specs.Prelude.{◌++◌, ◌&&◌, string_bytes};
+ghost use Rattle.mq_acl.specs.Views.{row_views};
 ghost use Rattle.mq_ask.specs.Lists.{AreRows};
+ghost use Rattle.mq_ask.specs.Notes.{by_mosquitto};
 ghost use Rattle.mq_ask_lint.specs.Lint.{IsLintFailure, AreRemarks, has_fault, has_needless};
 ghost use Rattle.mq_ask_lint.specs.Lint.{is_fault, matters, IsLinted, SaysWhetherTaken};
+ghost use Rattle.mq_ask_lint.specs.Objects.{AddsObjects, AddsRemarks, empty_said, limited_if};
+ghost use Rattle.mq_ask_lint.specs.Objects.{refused_lines};
 ghost use Rattle.mq_lint.specs.Needless.{AreNeedless};
 ghost use Rattle.mq_lint.specs.NeedlessFault.{IsNeedlessFault};
+ghost use Rattle.mq_witness.specs.Ruled.{has_patterns};
 ghost use denote.Ref.{Bor};
 
 use crate::remarks::{add_empty, add_none, add_refused, add_remarks};
@@ -165,7 +171,9 @@ fn outcome_of(remarks: &Remarks) -> Outcome
 }
 
 // The lines that mosquitto doesn't take.
-fn refused_lines(alloc: Global, text: &str) -> Result<Vec<Remark>, AllocError> {
+fn refused_lines(alloc: Global, text: &str) -> Result<Vec<Remark>, AllocError>
+    ensures { IfOk result (λ refused. refused.items ≡ refused_lines text.now) }
+{
     let all = remarks(alloc, Rules::Mosquitto, text)?;
     all.into_iter()
         .filter(|remark| is_fault(remark.kind))
@@ -201,7 +209,11 @@ fn add_whole(
     file: &str,
     found: &Remarks,
     options: Options,
-) -> Result<(), AllocError> {
+) -> Result<(), AllocError>
+    ensures { OnOk result (options.json ≡ true → (lines : List (List ℕ)) → AddsObjects
+        (record { file = file.now; lines = lines }) (empty_said found.now.is_empty)
+        (string_bytes answer.old) (string_bytes answer.new)) }
+{
     if found.is_empty {
         return add_empty(alloc, answer, file, options.json);
     }
@@ -219,7 +231,11 @@ fn add_limit_json(
     file: &str,
     found: &Remarks,
     options: Options,
-) -> Result<(), AllocError> {
+) -> Result<(), AllocError>
+    ensures { OnOk result (options.json ≡ true → string_bytes answer.new
+        ≡ string_bytes answer.old ++ limited_if (by_mosquitto options.rules
+        && has_patterns (row_views found.now.rows.items)) file.now) }
+{
     if !options.json || !is_limited(options.rules, &found.rows) {
         return Ok(());
     }
@@ -243,6 +259,8 @@ pub fn add_lint<'a>(
     ensures ok { IfOk result (λ linted. IsLinted options.rules list.entry.text.now linted.outcome) }
     ensures taken { IfOk result (λ linted.
         SaysWhetherTaken list.entry.text.now linted.is_taken) }
+    ensures json { OnOk result (options.json ≡ true → AddsRemarks options.rules list.entry
+        (string_bytes answer.old) (string_bytes answer.new)) }
     ensures quiet { OnOk result (options.rules ≡ Own → notes.new ≡ notes.old) }
 {
     let found = find_remarks(alloc, options.rules, list, options.steps)?;

@@ -1,4 +1,11 @@
 //! Remarks on lines, in words and as JSON.
+ghost use Rattle.std.specs.Prelude.{◌≡◌, ◌∷◌, ◌++◌, ℕ, List, [], None, Some, OnOk, codes};
+ghost use Rattle.std.specs.Prelude.{map, string_bytes, true};
+ghost use Rattle.mq_ask_lint.specs.Objects.{AddsObjects, all_refused, empty_said, is_remarked};
+ghost use Rattle.mq_ask_lint.specs.Objects.{kind_text, other_line, refused_said, remark_said};
+ghost use Rattle.mq_ask_lint.specs.Objects.{said_text, unremarked, whole_said};
+ghost use Rattle.mq_print.specs.Lists.{lines_view, list_view};
+
 use mq_acl::Rules;
 use mq_ask::{Options, fault_words, reload_words, rules_owner};
 use mq_lint::{Ids, Remark, RemarkKind};
@@ -33,7 +40,9 @@ const UNKNOWN: &str = "; whether a deny line with %c or %u, or a line for a user
 // The kind of what is said of a list that mosquitto doesn't take.
 const NOT_TAKEN: &str = "not taken";
 
-fn kind_name(kind: RemarkKind) -> &'static str {
+fn kind_name(kind: RemarkKind) -> &'static str
+    ensures { result.now ≡ kind_text kind }
+{
     match kind {
         RemarkKind::Fault(_) => "fault",
         RemarkKind::NoMark => "no mark",
@@ -47,7 +56,9 @@ fn kind_name(kind: RemarkKind) -> &'static str {
 }
 
 // The line that this one repeats, or that makes it needless.
-fn other_line(kind: RemarkKind) -> Option<u64> {
+fn other_line(kind: RemarkKind) -> Option<u64>
+    ensures { result ≡ other_line kind }
+{
     match kind {
         RemarkKind::Repeats(other) => Some(other),
         RemarkKind::Needless(_, by) => by,
@@ -119,7 +130,11 @@ fn add_of_file<'a>(
     file: &'a str,
     kind: &'a str,
     words: &'a str,
-) -> Result<(), AllocError> {
+) -> Result<(), AllocError>
+    ensures { OnOk result ((lines : List (List ℕ)) → AddsObjects
+        (record { file = file.entry.now; lines = lines }) (whole_said kind.entry.now ∷ [])
+        (string_bytes text.old) (string_bytes text.new)) }
+{
     add_object(
         alloc,
         text,
@@ -138,19 +153,24 @@ fn add_json<'a>(
     alloc: Global,
     text: &mut String,
     list: Lines<'a, 'a, 'a>,
-    remark: Remark,
+    line: u64,
+    other: Option<u64>,
     kind: &'a str,
     words: &'a str,
-) -> Result<(), AllocError> {
+) -> Result<(), AllocError>
+    ensures { OnOk result (string_bytes text.new ≡ string_bytes text.old
+        ++ said_text (lines_view list.entry)
+        (record { kind = kind.entry.now; line = Some line; other = other }) words.entry.now) }
+{
     add_object(
         alloc,
         text,
         &[
             ("file", Datum::Text(list.file)),
             ("kind", Datum::Text(kind)),
-            ("line", Datum::Number(remark.line)),
-            ("other", Datum::NumberIf(other_line(remark.kind))),
-            ("text", Datum::Text(list.line(remark.line))),
+            ("line", Datum::Number(line)),
+            ("other", Datum::NumberIf(other)),
+            ("text", Datum::Text(list.line(line))),
             ("words", Datum::Text(words)),
         ],
     )
@@ -162,12 +182,16 @@ fn add_remark(
     list: Lines<'_, '_, '_>,
     remark: Remark,
     options: Options,
-) -> Result<(), AllocError> {
+) -> Result<(), AllocError>
+    ensures { OnOk result (options.json ≡ true → AddsObjects (lines_view list.entry)
+        (remark_said remark ∷ []) (string_bytes text.old) (string_bytes text.new)) }
+{
     let line = list.whole_line(remark.line);
     let words = kind_words(alloc, options.rules, line, remark.kind)?;
     if options.json {
         let kind = kind_name(remark.kind);
-        return add_json(alloc, text, list, remark, kind, words.as_str());
+        let other = other_line(remark.kind);
+        return add_json(alloc, text, list, remark.line, other, kind, words.as_str());
     }
     add_words(alloc, text, list, remark.line, words.as_str())
 }
@@ -178,7 +202,10 @@ fn add_all(
     list: Lines<'_, '_, '_>,
     remarks: &[Remark],
     options: Options,
-) -> Result<(), AllocError> {
+) -> Result<(), AllocError>
+    ensures { OnOk result (options.json ≡ true → AddsObjects (lines_view list.entry)
+        (map remark_said remarks.now) (string_bytes text.old) (string_bytes text.new)) }
+{
     for remark in remarks {
         add_remark(alloc, text, list, *remark, options)?;
     }
@@ -193,7 +220,11 @@ pub(crate) fn add_remarks(
     odd: &[Remark],
     needless: &[Remark],
     options: Options,
-) -> Result<(), AllocError> {
+) -> Result<(), AllocError>
+    ensures { OnOk result (options.json ≡ true → AddsObjects (list_view list.entry)
+        (map remark_said odd.now ++ map remark_said needless.now)
+        (string_bytes text.old) (string_bytes text.new)) }
+{
     let lines = lines_of(alloc, list.text)?;
     let list = Lines {
         file: list.file,
@@ -203,25 +234,51 @@ pub(crate) fn add_remarks(
     add_all(alloc, text, list, needless, options)
 }
 
-// Adds that mosquitto doesn't take a line on which nothing else is remarked.
+fn is_remarked(odd: &[Remark], line: u64) -> bool
+    ensures { result ≡ is_remarked odd.now line }
+{
+    odd.iter().any(|remark| remark.line == line)
+}
+
+// Adds that mosquitto doesn't take a line, unless something else is remarked on it.
 fn add_refused_line(
     alloc: Global,
     text: &mut String,
     list: Lines<'_, '_, '_>,
+    odd: &[Remark],
     remark: Remark,
     options: Options,
-) -> Result<(), AllocError> {
+) -> Result<(), AllocError>
+    ensures { OnOk result (options.json ≡ true → AddsObjects (lines_view list.entry)
+        (map refused_said (unremarked odd.now (remark ∷ [])))
+        (string_bytes text.old) (string_bytes text.new)) }
+{
+    if is_remarked(odd, remark.line) {
+        return Ok(());
+    }
     let line = list.whole_line(remark.line);
     let why = kind_words(alloc, Rules::Mosquitto, line, remark.kind)?;
     let words = format!(in alloc; "{REFUSED}: {why}")?;
     if options.json {
-        return add_json(alloc, text, list, remark, NOT_TAKEN, words.as_str());
+        return add_json(
+            alloc,
+            text,
+            list,
+            remark.line,
+            None,
+            NOT_TAKEN,
+            words.as_str(),
+        );
     }
     add_words(alloc, text, list, remark.line, words.as_str())
 }
 
 // Adds what mosquitto does with a list that it doesn't take.
-fn add_reload(alloc: Global, text: &mut String, file: &str, json: bool) -> Result<(), AllocError> {
+fn add_reload(alloc: Global, text: &mut String, file: &str, json: bool) -> Result<(), AllocError>
+    ensures { OnOk result (json ≡ true → (lines : List (List ℕ)) → AddsObjects
+        (record { file = file.now; lines = lines }) (whole_said (codes "not taken") ∷ [])
+        (string_bytes text.old) (string_bytes text.new)) }
+{
     let words = reload_words(alloc, file)?;
     if json {
         return add_of_file(alloc, text, file, NOT_TAKEN, words.as_str());
@@ -240,7 +297,10 @@ pub(crate) fn add_refused(
     odd: &[Remark],
     refused: &[Remark],
     options: Options,
-) -> Result<(), AllocError> {
+) -> Result<(), AllocError>
+    ensures { OnOk result (options.json ≡ true → AddsObjects (list_view list.entry)
+        (all_refused odd.now refused.now) (string_bytes text.old) (string_bytes text.new)) }
+{
     if refused.is_empty() {
         return Ok(());
     }
@@ -250,9 +310,7 @@ pub(crate) fn add_refused(
         lines: &lines,
     };
     for remark in refused {
-        if !odd.iter().any(|other| other.line == remark.line) {
-            add_refused_line(alloc, text, lines, *remark, options)?;
-        }
+        add_refused_line(alloc, text, lines, odd, *remark, options)?;
     }
     add_reload(alloc, text, list.file, options.json)
 }
@@ -283,7 +341,11 @@ pub(crate) fn add_empty(
     text: &mut String,
     file: &str,
     json: bool,
-) -> Result<(), AllocError> {
+) -> Result<(), AllocError>
+    ensures { OnOk result (json ≡ true → (lines : List (List ℕ)) → AddsObjects
+        (record { file = file.now; lines = lines }) (whole_said (codes "empty") ∷ [])
+        (string_bytes text.old) (string_bytes text.new)) }
+{
     if json {
         return add_of_file(alloc, text, file, "empty", EMPTY);
     }
