@@ -1,2 +1,5 @@
 pub mod Who
 pub mod ReachAny
+pub mod AnyShown
+pub mod Refusals
+pub mod WhoShown

@@ -1,4 +1,9 @@
 //! Whether a client with any id can be sent something, in words and as JSON.
+ghost use Rattle.std.specs.Option.{option_copied};
+ghost use Rattle.std.specs.Prelude.{◌≡◌, ◌++◌, IfOk, OnOk, string_bytes, true};
+ghost use Rattle.mq_ask_who.specs.AnyShown.{any_text};
+ghost use Rattle.mq_print.specs.Lists.{list_view};
+
 use mq_ask::{AskedClient, add_client};
 use mq_ask_cases::shown_topic;
 use mq_differences::Difference;
@@ -12,26 +17,36 @@ fn add_json<'a>(
     list: ListText<'a, 'a>,
     about: (Option<&'a str>, &'a str),
     found: Option<&'a Difference>,
-) -> Result<(), AllocError> {
+) -> Result<(), AllocError>
+    ensures { OnOk result (string_bytes text.new ≡ string_bytes text.old
+        ++ any_text (list_view list.entry) (option_copied about.entry.0) about.entry.1.now
+        (option_copied found.entry)) }
+{
     let (user, wanted) = about;
-    let (client, topic, line, placeholders): (_, _, _, &[String]) = match found {
-        Some(found) => (
-            Some(found.client.as_str()),
-            Some(found.topic.text()),
-            list.line_if(found.old_reason.line()),
-            &found.placeholders,
-        ),
-        None => (None, None, None, &[]),
+    let Some(found) = found else {
+        return add_object(
+            alloc,
+            text,
+            &[
+                ("client", Datum::TextIf(None)),
+                ("filter", Datum::Text(wanted)),
+                ("line", Datum::LineIf(None)),
+                ("placeholders", Datum::Texts(&[])),
+                ("topic", Datum::TextIf(None)),
+                ("user", Datum::TextIf(user)),
+            ],
+        );
     };
+    let line = list.line_if(found.old_reason.line());
     add_object(
         alloc,
         text,
         &[
-            ("client", Datum::TextIf(client)),
+            ("client", Datum::Text(found.client.as_str())),
             ("filter", Datum::Text(wanted)),
             ("line", Datum::LineIf(line)),
-            ("placeholders", Datum::Texts(placeholders)),
-            ("topic", Datum::TextIf(topic)),
+            ("placeholders", Datum::Texts(&found.placeholders)),
+            ("topic", Datum::Text(found.topic.text())),
             ("user", Datum::TextIf(user)),
         ],
     )
@@ -70,7 +85,11 @@ pub fn any_text(
     about: (Option<&str>, &str),
     found: Option<&Difference>,
     json: bool,
-) -> Result<String, AllocError> {
+) -> Result<String, AllocError>
+    ensures { IfOk result (λ text. json ≡ true → string_bytes text
+        ≡ any_text (list_view list.entry) (option_copied about.entry.0) about.entry.1.now
+        (option_copied found.entry)) }
+{
     let mut text = String::new(alloc);
     if json {
         add_json(alloc, &mut text, list, about, found)?;

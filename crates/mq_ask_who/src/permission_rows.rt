@@ -92,7 +92,7 @@ fn denial_rows<'a>(
     alloc: Global,
     list: Lines<'a, 'a, 'a>,
     several: bool,
-    refused: &[&'a Difference],
+    refused: &'a [Difference],
 ) -> Result<Vec<DenialRow<'a>>, AllocError> {
     let mut rows = Vec::new(alloc);
     for other in refused {
@@ -108,7 +108,7 @@ fn row_of<'a>(
     list: Lines<'a, 'a, 'a>,
     asked: AskedOf,
     granted: &'a Difference,
-    refused: &[&'a Difference],
+    refused: &'a [Difference],
 ) -> Result<PermissionRow<'a>, AllocError> {
     let side = decision(alloc, list, granted.old_reason)?;
     let topic = if refused.is_empty() && !asked.refused {
@@ -175,7 +175,7 @@ impl<'a> PermissionRows<'a> {
         list: Lines<'a, 'a, 'a>,
         asked: AskedOf,
         granted: &'a Difference,
-        refused: &[&'a Difference],
+        refused: &'a [Difference],
     ) -> Result<(), AllocError> {
         let row = row_of(alloc, list, asked, granted, refused)?;
         let key = key_of(alloc, &row)?;

@@ -1,4 +1,18 @@
 //! Who may read or write the topics that a filter matches, in words and as JSON.
+ghost use Rattle.std.specs.Prelude.{◌≡◌, ◌++◌, ◌∷◌, [], List, IfOk, None, OnOk, if◌then◌else◌};
+ghost use Rattle.std.specs.Prelude.{map, string_bytes, true};
+ghost use Rattle.mq_acl.specs.declared.access.Direction.TheVariants.{Reading, Writing};
+ghost use Rattle.mq_ask.specs.Objects.{not_asked_texts, refused_texts};
+ghost use Rattle.mq_ask_who.specs.Refusals.{AreKept};
+ghost use Rattle.mq_ask_who.specs.WhoShown.{by_direction, is_every, is_refused_in};
+ghost use Rattle.mq_ask_who.specs.WhoShown.{permission_text, permission_texts, permissions_text};
+ghost use Rattle.mq_ask_who.specs.WhoShown.{permission_members, refusal_data};
+ghost use Rattle.mq_differences.specs.Differences.{same_direction};
+ghost use Rattle.mq_differences.specs.declared.difference.Difference.{Difference};
+ghost use Rattle.mq_print.specs.Lists.{lent_texts, lines_view, list_view};
+ghost use Rattle.mq_print.specs.Objects.{exception_data, with_data};
+ghost use Rattle.serde_json.specs.Data.{no_members};
+
 use crate::permission_rows::{AskedOf, PermissionRow, PermissionRows};
 use crate::refusals::Refusals;
 use mq_acl::{Direction, Row};
@@ -6,7 +20,7 @@ use mq_ask::{access_word, add_not_asked, add_not_asked_json, add_refused, add_re
 use mq_ask_cases::{
     ScriptTraffic, Side, add_counts, add_pattern, add_who, has_wildcard, publishes_text,
 };
-use mq_differences::Difference;
+use mq_differences::{Difference, same_direction};
 use mq_print::{
     Datum, Escape, Exception, Lines, ListText, add_cell, add_object, lines_of, shown_lines, widened,
 };
@@ -61,8 +75,12 @@ pub struct Asked<'a> {
 
 impl Asked<'_> {
     // Whether the broker refuses by itself topics that the filter names.
-    fn refuses(self, direction: Direction) -> bool {
-        self.refused.iter().any(|one| *one == direction)
+    fn refuses(self, direction: Direction) -> bool
+        ensures { result ≡ is_refused_in self.entry.refused.now direction }
+    {
+        self.refused
+            .iter()
+            .any(|one| same_direction(direction, *one))
     }
 }
 
@@ -73,39 +91,56 @@ struct Widths {
     place: usize,
 }
 
+fn exception<'a>(list: Lines<'a, 'a, 'a>, other: &'a Difference) -> Exception<'a>
+    ensures { exception_data result ≡ refusal_data (lines_view list.entry) other.entry.now }
+{
+    Exception {
+        client: other.client.as_str(),
+        line: list.line_if(other.old_reason.line()),
+        topic: other.topic.text(),
+        user: other.class.user(),
+    }
+}
+
 fn exceptions<'a>(
     alloc: Global,
     list: Lines<'a, 'a, 'a>,
-    refused: &[&'a Difference],
-) -> Result<Vec<Exception<'a>>, AllocError> {
+    refused: &'a [Difference],
+) -> Result<Vec<Exception<'a>>, AllocError>
+    ensures { IfOk result (λ all. map exception_data all.items
+        ≡ map (refusal_data (lines_view list.entry)) refused.entry.now) }
+{
     let mut all = Vec::new(alloc);
     for other in refused {
-        all.push(Exception {
-            client: other.client.as_str(),
-            line: list.line_if(other.old_reason.line()),
-            topic: other.topic.text(),
-            user: other.class.user(),
-        })?;
+        all.push(exception(list, other))?;
     }
     Ok(all)
+}
+
+// Whether nothing else of what is asked about isn't allowed.
+fn is_every(asked: Asked<'_>, granted: &Difference, refused: &[Difference]) -> bool
+    ensures { result ≡ is_every asked.entry.refused.now refused.now granted.now }
+{
+    refused.is_empty() && !asked.refuses(granted.direction)
 }
 
 fn permission_data<'d>(
     alloc: Global,
     list: Lines<'d, 'd, 'd>,
-    asked: Asked<'_>,
     granted: &'d Difference,
+    every: bool,
     exceptions: &'d [Exception<'d>],
-) -> Result<Vec<(&'static str, Datum<'d>)>, AllocError> {
-    let every = exceptions.is_empty() && !asked.refuses(granted.direction);
+) -> Result<Vec<(&'static str, Datum<'d>)>, AllocError>
+    ensures { IfOk result (λ fields. with_data no_members fields.items
+        ≡ permission_members (lines_view list.entry) every (map exception_data exceptions.entry.now)
+        granted.entry.now) }
+{
+    let line = list.line_if(granted.old_reason.line());
     Ok(vec![in alloc;
         ("access", Datum::Text(access_word(granted.direction))),
         ("client", Datum::Text(granted.client.as_str())),
         ("every", Datum::Flag(every)),
-        (
-            "line",
-            Datum::LineIf(list.line_if(granted.old_reason.line()))
-        ),
+        ("line", Datum::LineIf(line)),
         ("not", Datum::Exceptions(exceptions)),
         ("placeholders", Datum::Texts(&granted.placeholders)),
         ("topic", Datum::Text(granted.topic.text())),
@@ -119,13 +154,19 @@ fn add_json<'a>(
     asked: Asked<'a>,
     list: Lines<'a, 'a, 'a>,
     granted: &'a Difference,
-    refused: &[&'a Difference],
-) -> Result<(), AllocError> {
+    refused: &'a [Difference],
+) -> Result<(), AllocError>
+    ensures { OnOk result (asked.entry.traffic ≡ None → string_bytes text.new
+        ≡ string_bytes text.old ++ permission_text (lines_view list.entry) asked.entry.refused.now
+        refused.entry.now granted.entry.now) }
+{
     let exceptions = exceptions(alloc, list, refused)?;
-    let mut data = permission_data(alloc, list, asked, granted, &exceptions)?;
-    if let Some(traffic) = asked.traffic {
-        add_counts(&mut data, traffic.publishes(alloc, asked.filter, granted)?)?;
-    }
+    let every = is_every(asked, granted, refused);
+    let mut data = permission_data(alloc, list, granted, every, &exceptions)?;
+    let Some(traffic) = asked.traffic else {
+        return add_object(alloc, text, &data);
+    };
+    add_counts(&mut data, traffic.publishes(alloc, asked.filter, granted)?)?;
     add_object(alloc, text, &data)
 }
 
@@ -134,12 +175,18 @@ fn json_lines<'a>(
     asked: Asked<'a>,
     list: Lines<'a, 'a, 'a>,
     granted: &'a [Difference],
-    refusals: &Refusals<'a>,
-) -> Result<String, AllocError> {
+    refusals: &'a Refusals,
+) -> Result<String, AllocError>
+    ensures { (refused : List Difference) → AreKept refused refusals.entry.now
+        → IfOk result (λ text. asked.entry.traffic ≡ None → string_bytes text
+        ≡ permission_texts (lines_view list.entry) asked.entry.refused.now refused granted.entry.now
+        ++ (refused_texts asked.entry.refused.now
+        ++ not_asked_texts (lent_texts asked.entry.not_asked.now))) }
+{
     let mut text = String::new(alloc);
     for one in granted {
         let refused = refusals.beside(alloc, one)?;
-        add_json(alloc, &mut text, asked, list, one, &refused)?;
+        add_json(alloc, &mut text, asked, list, one, refused)?;
     }
     add_refused_json(alloc, &mut text, asked.refused)?;
     add_not_asked_json(alloc, &mut text, asked.not_asked)?;
@@ -151,7 +198,7 @@ fn rows_of<'a>(
     list: Lines<'a, 'a, 'a>,
     asked: Asked<'a>,
     granted: &'a [Difference],
-    refusals: &Refusals<'a>,
+    refusals: &'a Refusals,
 ) -> Result<PermissionRows<'a>, AllocError> {
     let several = has_wildcard(asked.filter);
     let mut rows = PermissionRows::new(alloc);
@@ -161,7 +208,7 @@ fn rows_of<'a>(
             several,
             refused: asked.refuses(one.direction),
         };
-        rows.add(alloc, list, of, one, &refused)?;
+        rows.add(alloc, list, of, one, refused)?;
     }
     Ok(rows)
 }
@@ -263,36 +310,48 @@ fn nobody(alloc: Global, asked: Asked<'_>) -> Result<String, AllocError> {
     format!(in alloc; "nobody {other}may {access} a topic of {filter}\n")
 }
 
+// Adds it to those of its direction.
+fn add_one(
+    reading: &mut Vec<Difference>,
+    writing: &mut Vec<Difference>,
+    one: Difference,
+) -> Result<(), AllocError>
+    ensures reading { OnOk result (reading.new.items ≡ reading.old.items
+        ++ (if same_direction Reading one.direction then one ∷ [] else [])) }
+    ensures writing { OnOk result (writing.new.items ≡ writing.old.items
+        ++ (if same_direction Writing one.direction then one ∷ [] else [])) }
+{
+    match one.direction {
+        Direction::Reading => reading.push(one)?,
+        Direction::Writing => writing.push(one)?,
+    }
+    Ok(())
+}
+
 // What may be read, then what may be written.
-fn by_direction(alloc: Global, granted: Vec<Difference>) -> Result<Vec<Difference>, AllocError> {
+fn by_direction(alloc: Global, granted: Vec<Difference>) -> Result<Vec<Difference>, AllocError>
+    ensures { IfOk result (λ all. all.items ≡ by_direction granted.items) }
+{
     let mut reading = Vec::new(alloc);
     let mut writing = Vec::new(alloc);
     for one in granted {
-        match one.direction {
-            Direction::Reading => reading.push(one)?,
-            Direction::Writing => writing.push(one)?,
-        }
+        add_one(&mut reading, &mut writing, one)?;
     }
     reading.append(&mut writing)?;
     Ok(reading)
 }
 
-fn text_of<'a>(
+fn words<'a>(
     alloc: Global,
     list: Lines<'a, 'a, 'a>,
     asked: Asked<'a>,
     granted: &'a [Difference],
-    refused: &'a [Difference],
-    json: bool,
+    refusals: &'a Refusals,
 ) -> Result<String, AllocError> {
-    let refusals = Refusals::new(alloc, refused)?;
-    if json {
-        return json_lines(alloc, asked, list, granted, &refusals);
-    }
     let mut text = if granted.is_empty() {
         nobody(alloc, asked)?
     } else {
-        let mut rows = rows_of(alloc, list, asked, granted, &refusals)?;
+        let mut rows = rows_of(alloc, list, asked, granted, refusals)?;
         rows.name_all(alloc)?;
         table(alloc, asked, rows.as_slice())?
     };
@@ -308,14 +367,22 @@ pub fn permissions_text(
     list: ListText<'_, '_>,
     asked: Asked<'_>,
     granted: Vec<Difference>,
-    refused: &[Difference],
+    refused: Vec<Difference>,
     json: bool,
-) -> Result<String, AllocError> {
+) -> Result<String, AllocError>
+    ensures { IfOk result (λ text. json ≡ true → asked.entry.traffic ≡ None → string_bytes text
+        ≡ permissions_text (list_view list.entry) asked.entry.refused.now granted.items
+        refused.items (lent_texts asked.entry.not_asked.now)) }
+{
     let granted = by_direction(alloc, granted)?;
+    let refusals = Refusals::new(alloc, refused)?;
     let lines = lines_of(alloc, list.text)?;
     let list = Lines {
         file: list.file,
         lines: &lines,
     };
-    text_of(alloc, list, asked, &granted, refused, json)
+    if json {
+        return json_lines(alloc, asked, list, &granted, &refusals);
+    }
+    words(alloc, list, asked, &granted, &refusals)
 }

@@ -1,6 +1,6 @@
 //! The answer to `reach --any`.
 ghost use Rattle.std.specs.Option.{option_copied};
-ghost use Rattle.std.specs.Prelude.{◌≡◌, ℕ, List, Option, IfOk, IfErr, OnOk, false};
+ghost use Rattle.std.specs.Prelude.{◌≡◌, ℕ, List, Option, IfOk, IfErr, OnOk, false, true};
 ghost use Rattle.mq_acl.specs.Views.{row_views};
 ghost use Rattle.mq_acl.specs.declared.row.Row.{Row};
 ghost use Rattle.mq_acl.specs.declared.rules.Rules.{Rules};
@@ -8,6 +8,7 @@ ghost use Rattle.mq_acl.specs.declared.rules.Rules.TheVariants.{Mosquitto};
 ghost use Rattle.mq_ask.specs.Lists.{AreRows};
 ghost use Rattle.mq_ask.specs.Notes.{SaysLimit};
 ghost use Rattle.mq_ask.specs.Statuses.{failure_status};
+ghost use Rattle.mq_ask_who.specs.AnyShown.{IsAnyShown};
 ghost use Rattle.mq_ask_who.specs.ReachAny.{IsAnyFailure, IsFound, IsFoundIn, IsReachedByAny};
 ghost use Rattle.mq_ask_who.specs.ReachAny.{SaysWhetherAny, claim_about, whom_for};
 ghost use Rattle.mq_expect.specs.Views.{claim_view, whom_view};
@@ -128,6 +129,9 @@ pub fn show_reach_any<'a, W: Write>(
     ensures unread { IfErr result (λ failure. failure_status failure ≡ 2 → out.new ≡ out.old) }
     ensures limited { OnOk result (options.rules ≡ Mosquitto → options.json ≡ false
         → SaysLimit (W.contents out.old) (W.contents out.new)) }
+    ensures json { OnOk result (options.json ≡ true
+        → IsAnyShown options.rules list.entry (option_copied user.entry) wanted.entry.now
+        (W.contents out.old) (W.contents out.new)) }
 {
     let found = find_any(alloc, options.rules, list, user, wanted, options.steps)?;
     let outcome = outcome_of(&found);

@@ -1,11 +1,22 @@
 //! What isn't allowed, by whom it isn't.
+ghost use Rattle.std.specs.BTreeMap.{get_by_text};
+ghost use Rattle.std.specs.Option.{option_map_or};
+ghost use Rattle.std.specs.Prelude.{◌≡◌, ◌++◌, ◌∷◌, [], ℕ, List, IfOk, OnOk, if◌then◌else◌};
+ghost use Rattle.std.specs.Prelude.{string_bytes};
+ghost use Rattle.std.specs.Str.{bytes_eq};
+ghost use Rattle.mq_ask_who.specs.Refusals.{AreKept, key};
+ghost use Rattle.mq_ask_who.specs.WhoShown.{beside};
+ghost use Rattle.mq_differences.specs.declared.difference.Difference.{Difference};
+
 use mq_ask::access_word;
 use mq_differences::{Class, Difference};
 use std::alloc::{AllocError, Global};
 use std::collections::BTreeMap;
 
 // The same for all of a class and a direction.
-fn key_of(alloc: Global, difference: &Difference) -> Result<String, AllocError> {
+fn key_of(alloc: Global, difference: &Difference) -> Result<String, AllocError>
+    ensures { IfOk result (λ text. string_bytes text ≡ key difference.now) }
+{
     let access = access_word(difference.direction);
     match &difference.class {
         Class::Anonymous => format!(in alloc; "{access} anonymous"),
@@ -14,41 +25,43 @@ fn key_of(alloc: Global, difference: &Difference) -> Result<String, AllocError> 
     }
 }
 
+// Keeps it behind those with the same key.
+fn keep(
+    by_key: &mut BTreeMap<String, Vec<Difference>>,
+    key: String,
+    difference: Difference,
+) -> Result<(), AllocError>
+    ensures { OnOk result ((text : List ℕ)
+        → option_map_or (λ all. all.items) (get_by_text by_key.new text) []
+        ≡ option_map_or (λ all. all.items) (get_by_text by_key.old text) []
+        ++ (if bytes_eq text (string_bytes key) then difference ∷ [] else [])) }
+{
+    by_key.entry(key)?.or_default().push(difference)?;
+    Ok(())
+}
+
 /// What isn't allowed, by class and direction.
-pub(crate) struct Refusals<'a> {
-    refused: &'a [Difference],
-    // The places of those of each class and direction.
-    places: BTreeMap<String, Vec<usize>>,
+pub(crate) struct Refusals {
+    by_key: BTreeMap<String, Vec<Difference>>,
 }
 
 // Opaque to callers' proofs: one step, and not one for each field (docs/explanation/gate.md).
-impl Drop for Refusals<'_> {
+impl Drop for Refusals {
     fn drop(self) {
-        let Refusals {
-            refused: _,
-            places: _,
-        } = self;
+        let Refusals { by_key: _ } = self;
     }
 }
 
-impl<'a> Refusals<'a> {
-    pub(crate) fn new(
-        alloc: Global,
-        refused: &'a [Difference],
-    ) -> Result<Refusals<'a>, AllocError> {
-        let mut places: BTreeMap<String, Vec<usize>> = BTreeMap::new(alloc);
-        for (place, difference) in refused.iter().enumerate() {
-            let key = key_of(alloc, difference)?;
-            places.entry(key)?.or_default().push(place)?;
+impl Refusals {
+    pub(crate) fn new(alloc: Global, refused: Vec<Difference>) -> Result<Refusals, AllocError>
+        ensures { IfOk result (AreKept refused.items) }
+    {
+        let mut by_key: BTreeMap<String, Vec<Difference>> = BTreeMap::new(alloc);
+        for difference in refused {
+            let key = key_of(alloc, &difference)?;
+            keep(&mut by_key, key, difference)?;
         }
-        Ok(Refusals { refused, places })
-    }
-
-    fn places_at(&self, key: &str) -> &[usize] {
-        let Some(places) = self.places.get(key) else {
-            return &[];
-        };
-        places.as_slice()
+        Ok(Refusals { by_key })
     }
 
     /// Those of the same class and direction.
@@ -56,14 +69,14 @@ impl<'a> Refusals<'a> {
         &self,
         alloc: Global,
         granted: &Difference,
-    ) -> Result<Vec<&'a Difference>, AllocError> {
+    ) -> Result<&[Difference], AllocError>
+        ensures { (refused : List Difference) → AreKept refused self.now
+            → IfOk result (λ all. all.now ≡ beside refused granted.now) }
+    {
         let key = key_of(alloc, granted)?;
-        let mut all = Vec::new(alloc);
-        for place in self.places_at(key.as_str()) {
-            if let Some(difference) = self.refused.get(*place) {
-                all.push(difference)?;
-            }
+        match self.by_key.get(key.as_str()) {
+            Some(all) => Ok(all),
+            None => Ok(&[]),
         }
-        Ok(all)
     }
 }

@@ -2,7 +2,7 @@
 ghost use Rattle.std.specs.List.{filter, list_any};
 ghost use Rattle.std.specs.Option.{option_copied};
 ghost use Rattle.std.specs.Prelude.{◌≡◌, ◌⊎◌, ◌&&◌, ℕ, List, [], ◌∷◌, IfOk, IfErr, OnOk};
-ghost use Rattle.std.specs.Prelude.{false, true};
+ghost use Rattle.std.specs.Prelude.{false, None, string_bytes, true};
 ghost use Rattle.mq_acl.specs.Refused.{refuses};
 ghost use Rattle.mq_acl.specs.Views.{row_views};
 ghost use Rattle.mq_acl.specs.declared.row.Row.{Row};
@@ -16,6 +16,8 @@ ghost use Rattle.mq_ask_who.specs.Who.{IsWhoFailure, ArePermissions, IsWho, Says
 ghost use Rattle.mq_ask_who.specs.Who.{has_word, is_kept, is_left_out, is_shown, is_unshared};
 ghost use Rattle.mq_ask_who.specs.Who.{AreNotAsked, is_kept_user, is_not_asked, is_wanted};
 ghost use Rattle.mq_ask_who.specs.Who.{is_named, names};
+ghost use Rattle.mq_ask_who.specs.WhoShown.{IsWhoShown, permissions_text};
+ghost use Rattle.mq_print.specs.Lists.{lent_texts, list_view};
 ghost use Rattle.mq_topic.specs.Texts.{is_shared};
 ghost use Rattle.mq_who.specs.Faults.{IsWhoFault};
 ghost use Rattle.mq_who.specs.Unasked.{has_text};
@@ -281,11 +283,18 @@ fn answer_text(
     selection: &Selection<'_>,
     permissions: Permissions,
     json: bool,
-) -> Result<String, AllocError> {
+) -> Result<String, AllocError>
+    ensures { IfOk result (λ text. json ≡ true → asked.entry.traffic ≡ None → string_bytes text
+        ≡ permissions_text (list_view list.entry) asked.entry.refused.now
+        (filter (is_shown selection.now.access (option_copied selection.now.only))
+        permissions.granted.items)
+        permissions.refused.items (lent_texts asked.entry.not_asked.now)) }
+{
     let mut permissions = permissions;
     let granted = mem::replace(&mut permissions.granted, Vec::new(alloc));
+    let refused = mem::replace(&mut permissions.refused, Vec::new(alloc));
     let granted = shown(alloc, granted, selection)?;
-    permissions_text(alloc, list, asked, granted, &permissions.refused, json)
+    permissions_text(alloc, list, asked, granted, refused, json)
 }
 
 /// Shows who may by the list read or write the topics that the filter matches, if so many steps suffice to know it; and
@@ -304,6 +313,9 @@ pub fn show_who<'a, W: Write>(
     ensures unread { IfErr result (λ failure. failure_status failure ≡ 2 → out.new ≡ out.old) }
     ensures limited { OnOk result (options.rules ≡ Mosquitto → options.json ≡ false
         → SaysLimit (W.contents out.old) (W.contents out.new)) }
+    ensures json { OnOk result (options.json ≡ true → script.entry ≡ None
+        → IsWhoShown options.rules list.entry wanted.entry.now selection.entry.access
+        (option_copied selection.entry.only) (W.contents out.old) (W.contents out.new)) }
 {
     let permissions = find_permissions(alloc, options.rules, list, wanted, options.steps)?;
     let rows = rows_in(alloc, options.rules, list)?;
