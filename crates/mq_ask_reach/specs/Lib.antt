@@ -1,2 +1,3 @@
 pub mod Reach
 pub mod Script
+pub mod Objects

@@ -1,10 +1,12 @@
 //! The answer to `reach`.
 ghost use Rattle.std.specs.Option.{option_copied};
-ghost use Rattle.std.specs.Prelude.{◌≡◌, ◌⊎◌, ℕ, List, IfOk, IfErr, Some, None, IsTrue, false};
+ghost use Rattle.std.specs.Prelude.{◌≡◌, ◌⊎◌, ℕ, List, IfOk, IfErr, OnOk, Some, None, IsTrue};
+ghost use Rattle.std.specs.Prelude.{false, true};
 ghost use Rattle.mq_acl.specs.Views.{row_views};
 ghost use Rattle.mq_ask.specs.Failures.{IsListFailure};
 ghost use Rattle.mq_ask.specs.Lists.{AreRows};
 ghost use Rattle.mq_ask.specs.Statuses.{failure_status};
+ghost use Rattle.mq_ask_reach.specs.Objects.{IsTopicWritten};
 ghost use Rattle.mq_ask_reach.specs.Reach.{IsReach, IsReached, IsWordFailure};
 ghost use Rattle.mq_reach.specs.Reach.{list_by};
 ghost use Rattle.mq_topic.specs.Texts.{filter_part, is_name, is_subscription};
@@ -135,6 +137,10 @@ pub fn show_reach<'a, W: Write>(
     ensures ok { IfOk result (IsReached options.rules list.entry.text.now client.entry.id.now
         (option_copied client.entry.user) subscription.entry.now) }
     ensures unread { IfErr result (λ failure. failure_status failure ≡ 2 → out.new ≡ out.old) }
+    ensures json { OnOk result (options.json ≡ true
+        → IsTopicWritten options.rules list.entry.text.now client.entry.id.now
+        (option_copied client.entry.user) subscription.entry.now
+        (W.contents out.old) (W.contents out.new)) }
 {
     let found = find_topic(alloc, options.rules, list, client, subscription)?;
     let outcome = outcome_of(&found);
@@ -144,6 +150,6 @@ pub fn show_reach<'a, W: Write>(
         subscription,
         note: note.as_str(),
     };
-    let text = topic_text(alloc, asked, &found, options.json);
-    print_outcome(out, text, outcome)
+    let text = topic_text(alloc, asked, &found, options.json)?;
+    print_outcome(out, Ok(text), outcome)
 }

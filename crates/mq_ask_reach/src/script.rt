@@ -1,9 +1,11 @@
 //! The answer to `reach --script`.
 ghost use Rattle.std.specs.Io.KnownBytes.{Consumes, IsAtEnd};
-ghost use Rattle.std.specs.Prelude.{◌≡◌, ◌≢◌, ◌⊎◌, ◌<◌, [], ℕ, List, Option, IfOk, IfErr};
+ghost use Rattle.std.specs.Prelude.{◌≡◌, ◌≢◌, ◌⊎◌, ◌<◌, [], ℕ, List, Option, IfOk, IfErr, OnOk};
+ghost use Rattle.std.specs.Prelude.{true};
 ghost use Rattle.mq_ask.specs.Failures.{IsListFailure};
 ghost use Rattle.mq_ask.specs.Lists.{AreRows};
 ghost use Rattle.mq_ask.specs.Statuses.{failure_status};
+ghost use Rattle.mq_ask_reach.specs.Objects.{AreUnreachedWritten};
 ghost use Rattle.mq_ask_reach.specs.Script.{IsScriptFailure, FindsUnreached, AreShown};
 ghost use Rattle.mq_reach.specs.Faults.{IsScriptFault};
 
@@ -114,9 +116,14 @@ pub fn show_subscriptions<'a, R: Read, W: Write>(
         × Consumes (R.remaining reader.old) (R.remaining reader.new) given
         × IsAtEnd (R.remaining reader.new) × AreShown options.rules list.entry.text.now given outcome) }
     ensures unread { IfErr result (λ failure. failure_status failure ≡ 2 → out.new ≡ out.old) }
+    ensures json { OnOk result (options.json ≡ true → (given : List ℕ)
+        × Consumes (R.remaining reader.old) (R.remaining reader.new) given
+        × IsAtEnd (R.remaining reader.new)
+        × AreUnreachedWritten options.rules list.entry.text.now script.entry.now given
+        (W.contents out.old) (W.contents out.new)) }
 {
     let findings = find_subscriptions(alloc, options.rules, list, script, reader)?;
     let outcome = outcome_of(&findings);
-    let text = subscriptions_text(alloc, script, &findings, options.json);
-    print_outcome(out, text, outcome)
+    let text = subscriptions_text(alloc, script, &findings, options.json)?;
+    print_outcome(out, Ok(text), outcome)
 }

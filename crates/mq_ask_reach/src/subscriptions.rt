@@ -1,4 +1,9 @@
 //! The subscriptions of a script that can receive nothing, in words and as JSON.
+ghost use Rattle.std.specs.Prelude.{◌≡◌, ◌++◌, List, ℕ, IfOk, OnOk, string_bytes, true};
+ghost use Rattle.mq_ask_reach.specs.Objects.{subscription_object, unreached_text};
+ghost use Rattle.mq_reach.specs.Search.{AreCounted};
+ghost use Rattle.mq_reach.specs.Tracked.{subscription_view, subscription_views};
+
 use mq_print::{Datum, add_cell, add_object, shown_name, widened};
 use mq_reach::{Counts, Findings, Subscription};
 use std::alloc::{AllocError, Global};
@@ -109,11 +114,11 @@ fn add_subscription<'a>(
     text: &mut String,
     script: &'a str,
     subscription: &'a Subscription,
-) -> Result<(), AllocError> {
-    let user = match &subscription.user {
-        Some(user) => Some(user.as_str()),
-        None => None,
-    };
+) -> Result<(), AllocError>
+    ensures { OnOk result (string_bytes text.new ≡ string_bytes text.old
+        ++ subscription_object script.entry.now (subscription_view subscription.entry.now)) }
+{
+    let user = subscription.user.as_deref();
     add_object(
         alloc,
         text,
@@ -127,7 +132,11 @@ fn add_subscription<'a>(
     )
 }
 
-fn json_lines(alloc: Global, script: &str, findings: &Findings) -> Result<String, AllocError> {
+fn json_lines(alloc: Global, script: &str, findings: &Findings) -> Result<String, AllocError>
+    ensures { (lines : List (List ℕ)) → AreCounted lines findings.entry.now.counts
+        → IfOk result (λ text. string_bytes text ≡ unreached_text script.entry.now lines
+        (subscription_views findings.entry.now.unreached.items)) }
+{
     let mut text = String::new(alloc);
     for subscription in &findings.unreached {
         add_subscription(alloc, &mut text, script, subscription)?;
@@ -154,7 +163,11 @@ pub fn subscriptions_text(
     script: &str,
     findings: &Findings,
     json: bool,
-) -> Result<String, AllocError> {
+) -> Result<String, AllocError>
+    ensures { (lines : List (List ℕ)) → AreCounted lines findings.entry.now.counts
+        → IfOk result (λ text. json ≡ true → string_bytes text ≡ unreached_text script.entry.now
+        lines (subscription_views findings.entry.now.unreached.items)) }
+{
     if json {
         return json_lines(alloc, script, findings);
     }

@@ -1,4 +1,8 @@
 //! What a subscription can be sent, in words and as JSON.
+ghost use Rattle.std.specs.Option.{option_copied};
+ghost use Rattle.std.specs.Prelude.{◌≡◌, ◌++◌, IfOk, OnOk, string_bytes, true};
+ghost use Rattle.mq_ask_reach.specs.Objects.{topic_object};
+
 use mq_ask::{AskedClient, add_client};
 use mq_print::{Datum, Escape, add_object, shown_lines};
 use mq_topic::{LevelText, TopicName};
@@ -9,7 +13,10 @@ fn add_json(
     text: &mut String,
     subscription: &str,
     topic: Option<&str>,
-) -> Result<(), AllocError> {
+) -> Result<(), AllocError>
+    ensures { OnOk result (string_bytes text.new ≡ string_bytes text.old
+        ++ topic_object subscription.now (option_copied topic.entry)) }
+{
     add_object(
         alloc,
         text,
@@ -44,17 +51,23 @@ fn add_words(
     write!(text, "\n{note}")
 }
 
+fn text_of(found: &Option<TopicName>) -> Option<&str>
+    ensures { option_copied result ≡ found.now }
+{
+    Some(found.as_ref()?.text())
+}
+
 /// A topic that the subscription can be sent, or that there is none.
 pub fn topic_text(
     alloc: Global,
     asked: AskedFilter<'_>,
     found: &Option<TopicName>,
     json: bool,
-) -> Result<String, AllocError> {
-    let topic = match found {
-        Some(topic) => Some(topic.text()),
-        None => None,
-    };
+) -> Result<String, AllocError>
+    ensures { IfOk result (λ text. json ≡ true
+        → string_bytes text ≡ topic_object asked.entry.subscription.now found.entry.now) }
+{
+    let topic = text_of(found);
     let mut text = String::new(alloc);
     if json {
         add_json(alloc, &mut text, asked.subscription, topic)?;
