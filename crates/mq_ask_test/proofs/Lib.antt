@@ -1,3 +1,4 @@
 pub mod BoundLemmas
 pub mod VerdictLemmas
 pub mod FileLemmas
+pub mod ObjectLemmas

@@ -4,3 +4,4 @@ pub mod Findings
 pub mod Faults
 pub mod Files
 pub mod Tested
+pub mod Objects

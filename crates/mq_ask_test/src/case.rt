@@ -1,6 +1,15 @@
 //! The client and the topic that show that a line doesn't hold, and the lines that decide there.
+ghost use Rattle.std.specs.Option.{option_and_then, option_copied, option_map};
+ghost use Rattle.std.specs.Prelude.{◌≡◌, Ok};
+ghost use Rattle.mq_ask_test.specs.Objects.{bound_of, case_view, decided_in, decided_line};
+ghost use Rattle.mq_ask_test.specs.Objects.{example_of, list_at};
+ghost use Rattle.mq_ask_test.specs.Questions.{asked_view};
+ghost use Rattle.mq_expect.specs.Files.{says_view};
+ghost use Rattle.mq_expect.specs.Views.{entry_view};
+ghost use Rattle.mq_print.specs.Lists.{line_view, list_view};
+
 use crate::finding::Finding;
-use crate::list::ReadList;
+use crate::list::{ReadList, first_in};
 use crate::verdicts::Verdict;
 use mq_ask_cases::has_wildcard;
 use mq_differences::{Difference, Reason};
@@ -41,7 +50,9 @@ pub(crate) struct Decided<'v> {
 
 impl<'v> Decided<'v> {
     /// The line that decides, if one does.
-    pub(crate) fn line(self) -> Option<Line<'v>> {
+    pub(crate) fn line(self) -> Option<Line<'v>>
+        ensures { option_map line_view result ≡ decided_line self.entry }
+    {
         let number = self.reason.line()?;
         Some(Line {
             file: self.list.file,
@@ -65,15 +76,19 @@ impl<'v> Decided<'v> {
 }
 
 // The list of this file.
-fn list_text<'v>(lists: &'v [ReadList<'v, 'v>], file: &'v str) -> ListText<'v, 'v> {
-    match lists.iter().find(|read| read.list.file == file) {
+fn list_text<'v>(lists: &'v [ReadList<'v, 'v>], file: &'v str) -> ListText<'v, 'v>
+    ensures { list_view result ≡ list_at lists.entry.now file.entry.now }
+{
+    match first_in(lists, file) {
         Some(read) => read.list,
         None => ListText { file, text: "" },
     }
 }
 
 // The file behind `at most` or `at least`.
-fn bound_file<'a>(says: &Expectation<'a>) -> Option<&'a str> {
+fn bound_file<'a>(says: &Expectation<'a>) -> Option<&'a str>
+    ensures { option_copied result ≡ bound_of (Ok (entry_view says.now)) }
+{
     match says {
         Expectation::AtMost(file) => Some(*file),
         Expectation::AtLeast(file) => Some(*file),
@@ -82,32 +97,46 @@ fn bound_file<'a>(says: &Expectation<'a>) -> Option<&'a str> {
 }
 
 // What decides in the list of this file.
-fn decision<'v>(
+fn decided_in<'v>(lists: &'v [ReadList<'v, 'v>], file: &'v str, reason: Reason) -> Decided<'v>
+    ensures { decided_line result ≡ decided_in lists.entry.now file.entry.now reason }
+{
+    let list = list_text(lists, file);
+    Decided { list, reason }
+}
+
+// What decides in the list that it is compared with, if it is.
+fn decided_in_other<'v>(
     lists: &'v [ReadList<'v, 'v>],
-    file: Option<&'v str>,
+    verdict: &'v Verdict<'v, 'v>,
     reason: Reason,
-) -> Option<Decided<'v>> {
-    let list = list_text(lists, file?);
-    Some(Decided { list, reason })
+) -> Option<Decided<'v>>
+    ensures { option_and_then decided_line result
+        ≡ option_and_then (λ file. decided_in lists.entry.now file reason)
+        (bound_of (says_view verdict.entry.now.asked.expectation.now.says)) }
+{
+    Some(decided_in(lists, bound_of(verdict)?, reason))
 }
 
 /// The client and the topic that show it, if some do.
 pub(crate) fn case_of<'v>(
     lists: &'v [ReadList<'v, 'v>],
     verdict: &'v Verdict<'v, 'v>,
-) -> Option<Case<'v>> {
-    let file = verdict.asked.list;
+) -> Option<Case<'v>>
+    ensures { case_view result ≡ example_of lists.entry.now
+        (asked_view verdict.entry.now.asked) verdict.entry.now.finding }
+{
+    let file = verdict.asked.list?;
     match &verdict.finding {
         Finding::Fails(shown) => Some(Case {
             shown,
-            decided: decision(lists, file, shown.old_reason)?,
+            decided: decided_in(lists, file, shown.old_reason),
             other: None,
             several: is_of_several(verdict),
         }),
         Finding::Differs(shown) => Some(Case {
             shown,
-            decided: decision(lists, file, shown.new_reason)?,
-            other: decision(lists, bound_of(verdict), shown.old_reason),
+            decided: decided_in(lists, file, shown.new_reason),
+            other: decided_in_other(lists, verdict, shown.old_reason),
             several: true,
         }),
         _ => None,
@@ -122,7 +151,10 @@ fn is_of_several(verdict: &Verdict<'_, '_>) -> bool {
     }
 }
 
-fn bound_of<'v>(verdict: &'v Verdict<'v, 'v>) -> Option<&'v str> {
+fn bound_of<'v>(verdict: &'v Verdict<'v, 'v>) -> Option<&'v str>
+    ensures { option_copied result
+        ≡ bound_of (says_view verdict.entry.now.asked.expectation.now.says) }
+{
     match &verdict.asked.expectation.says {
         Ok(says) => bound_file(says),
         Err(_) => None,

@@ -51,7 +51,10 @@ pub(crate) struct Listed<'a, 'l> {
 }
 
 // The first list of this file.
-fn first_in<'l, 'a, 't>(lists: &'l [ReadList<'a, 't>], file: &str) -> Option<&'l ReadList<'a, 't>>
+pub(crate) fn first_in<'l, 'a, 't>(
+    lists: &'l [ReadList<'a, 't>],
+    file: &str,
+) -> Option<&'l ReadList<'a, 't>>
     ensures { option_copied result ≡ find (is_in file.now) lists.entry.now }
 {
     lists.iter().find(|read| read.list.file == file)

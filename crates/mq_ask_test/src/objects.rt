@@ -1,15 +1,29 @@
 //! The verdicts as JSON objects.
+ghost use Rattle.std.specs.Option.{option_and_then, option_copied, option_map, option_map_or};
+ghost use Rattle.std.specs.Prelude.{◌≡◌, ◌++◌, [], List, ℕ, IfOk, OnOk, Option, string_bytes};
+ghost use Rattle.mq_ask.specs.Words.{access_text};
+ghost use Rattle.mq_ask_test.specs.Objects.{AreVerdictTexts, case_view, count_members, example_of};
+ghost use Rattle.mq_ask_test.specs.Objects.{kind_text, shown_view, user_not_asked};
+ghost use Rattle.mq_ask_test.specs.Objects.{verdict_members, verdict_text};
+ghost use Rattle.mq_ask_test.specs.Questions.{asked_view};
+ghost use Rattle.mq_differences.specs.Classes.{user_of};
+ghost use Rattle.mq_print.specs.Lists.{lines_view};
+ghost use Rattle.mq_print.specs.Objects.{object_text};
+
 use crate::case::{Case, case_of};
 use crate::finding::Finding;
 use crate::list::ReadList;
 use crate::verdicts::{Verdict, holding};
 use crate::words::finding_words;
 use mq_ask::access_word;
+use mq_differences::Difference;
 use mq_print::{Datum, Line, Lines, add_object};
 use mq_topic::LevelText;
 use std::alloc::{AllocError, Global};
 
-fn kind_name(finding: &Finding<'_>) -> &'static str {
+fn kind_name(finding: &Finding<'_>) -> &'static str
+    ensures { result.now ≡ kind_text finding.now }
+{
     match finding {
         Finding::Holds => "holds",
         Finding::Fails(_) => "fails",
@@ -27,7 +41,9 @@ fn kind_name(finding: &Finding<'_>) -> &'static str {
 }
 
 // The user about whom nothing is asked, if it is of one.
-fn not_asked<'v>(finding: &'v Finding<'_>) -> Option<&'v str> {
+fn not_asked<'v>(finding: &'v Finding<'_>) -> Option<&'v str>
+    ensures { option_copied result ≡ user_not_asked finding.entry.now }
+{
     match finding {
         Finding::Unasked(user) => Some(*user),
         Finding::LeavesOut(user) => Some(user.as_str()),
@@ -35,38 +51,26 @@ fn not_asked<'v>(finding: &'v Finding<'_>) -> Option<&'v str> {
     }
 }
 
-// What is said of the client and the topic that show it.
+// The client and the topic that show it, if some do, and the lines that decide.
 #[derive(Clone, Copy, Drop)]
-struct Shown<'v> {
-    access: Option<&'v str>,
-    client: Option<&'v str>,
-    user: Option<&'v str>,
-    topic: Option<&'v str>,
-    placeholders: &'v [String],
+pub(crate) struct Shown<'v> {
+    shown: Option<&'v Difference>,
     decided: Option<Line<'v>>,
     other: Option<Line<'v>>,
 }
 
-fn nothing<'v>() -> Shown<'v> {
+fn shown_in<'v>(case: Option<Case<'v>>) -> Shown<'v>
+    ensures { shown_view result ≡ case_view case.entry }
+{
+    let Some(case) = case else {
+        return Shown {
+            shown: None,
+            decided: None,
+            other: None,
+        };
+    };
     Shown {
-        access: None,
-        client: None,
-        user: None,
-        topic: None,
-        placeholders: &[],
-        decided: None,
-        other: None,
-    }
-}
-
-fn shown_in<'v>(case: Case<'v>) -> Shown<'v> {
-    let shown = case.shown;
-    Shown {
-        access: Some(access_word(shown.direction)),
-        client: Some(shown.client.as_str()),
-        user: shown.class.user(),
-        topic: Some(shown.topic.text()),
-        placeholders: &shown.placeholders,
+        shown: Some(case.shown),
         decided: case.decided.line(),
         other: match case.other {
             Some(other) => other.line(),
@@ -75,10 +79,40 @@ fn shown_in<'v>(case: Case<'v>) -> Shown<'v> {
     }
 }
 
-fn shown_of<'v>(lists: &'v [ReadList<'v, 'v>], verdict: &'v Verdict<'v, 'v>) -> Shown<'v> {
-    match case_of(lists, verdict) {
-        Some(case) => shown_in(case),
-        None => nothing(),
+fn access_in<'v>(shown: Option<&'v Difference>) -> Option<&'v str>
+    ensures { option_copied result
+        ≡ option_map (λ d. access_text d.direction) (option_copied shown.entry) }
+{
+    Some(access_word(shown?.direction))
+}
+
+fn client_in(shown: Option<&Difference>) -> Option<&str>
+    ensures { option_copied result
+        ≡ option_map (λ d. string_bytes d.client) (option_copied shown.entry) }
+{
+    Some(shown?.client.as_str())
+}
+
+fn user_in(shown: Option<&Difference>) -> Option<&str>
+    ensures { option_copied result
+        ≡ option_and_then (λ d. user_of d.class) (option_copied shown.entry) }
+{
+    shown?.class.user()
+}
+
+fn topic_in(shown: Option<&Difference>) -> Option<&str>
+    ensures { option_copied result ≡ option_map (λ d. d.topic) (option_copied shown.entry) }
+{
+    Some(shown?.topic.text())
+}
+
+fn placeholders_in(shown: Option<&Difference>) -> &[String]
+    ensures { result.now
+        ≡ option_map_or (λ d. d.placeholders.items) (option_copied shown.entry) [] }
+{
+    match shown {
+        Some(difference) => &difference.placeholders,
+        None => &[],
     }
 }
 
@@ -89,14 +123,19 @@ fn add_one<'v>(
     verdict: &'v Verdict<'v, 'v>,
     shown: Shown<'v>,
     words: Option<&'v str>,
-) -> Result<(), AllocError> {
+) -> Result<(), AllocError>
+    ensures { OnOk result (string_bytes text.new ≡ string_bytes text.old ++ object_text
+        (verdict_members (lines_view expectations.entry) (asked_view verdict.entry.now.asked)
+        verdict.entry.now.finding (shown_view shown.entry) (option_copied words.entry))) }
+{
     let number = verdict.asked.expectation.line;
+    let difference = shown.shown;
     add_object(
         alloc,
         text,
         &[
-            ("access", Datum::TextIf(shown.access)),
-            ("client", Datum::TextIf(shown.client)),
+            ("access", Datum::TextIf(access_in(difference))),
+            ("client", Datum::TextIf(client_in(difference))),
             ("decided", Datum::LineIf(shown.decided)),
             ("file", Datum::Text(expectations.file)),
             ("holds", Datum::Flag(verdict.finding.holds())),
@@ -105,10 +144,10 @@ fn add_one<'v>(
             ("list", Datum::TextIf(verdict.asked.list)),
             ("not_asked", Datum::TextIf(not_asked(&verdict.finding))),
             ("other", Datum::LineIf(shown.other)),
-            ("placeholders", Datum::Texts(shown.placeholders)),
+            ("placeholders", Datum::Texts(placeholders_in(difference))),
             ("text", Datum::Text(expectations.line(number))),
-            ("topic", Datum::TextIf(shown.topic)),
-            ("user", Datum::TextIf(shown.user)),
+            ("topic", Datum::TextIf(topic_in(difference))),
+            ("user", Datum::TextIf(user_in(difference))),
             ("words", Datum::TextIf(words)),
         ],
     )
@@ -120,9 +159,13 @@ fn add_verdict(
     expectations: Lines<'_, '_, '_>,
     lists: &[ReadList<'_, '_>],
     verdict: &Verdict<'_, '_>,
-) -> Result<(), AllocError> {
+) -> Result<(), AllocError>
+    ensures { OnOk result ((words : Option (List ℕ)) × (string_bytes text.new
+        ≡ string_bytes text.old ++ verdict_text lists.now (lines_view expectations.entry)
+        verdict.now words)) }
+{
     let words = finding_words(alloc, &verdict.finding)?;
-    let shown = shown_of(lists, verdict);
+    let shown = shown_in(case_of(lists, verdict));
     add_one(alloc, text, expectations, verdict, shown, words.as_deref())
 }
 
@@ -130,7 +173,10 @@ fn add_counts(
     alloc: Global,
     text: &mut String,
     verdicts: &[Verdict<'_, '_>],
-) -> Result<(), AllocError> {
+) -> Result<(), AllocError>
+    ensures { OnOk result (string_bytes text.new
+        ≡ string_bytes text.old ++ object_text (count_members verdicts.now)) }
+{
     add_object(
         alloc,
         text,
@@ -147,7 +193,11 @@ pub(crate) fn json_lines(
     expectations: Lines<'_, '_, '_>,
     lists: &[ReadList<'_, '_>],
     verdicts: &[Verdict<'_, '_>],
-) -> Result<String, AllocError> {
+) -> Result<String, AllocError>
+    ensures { IfOk result (λ text. (objects : List ℕ)
+        × AreVerdictTexts lists.now (lines_view expectations.entry) verdicts.now objects
+        × (string_bytes text ≡ objects ++ object_text (count_members verdicts.now))) }
+{
     let mut text = String::new(alloc);
     for verdict in verdicts {
         add_verdict(alloc, &mut text, expectations, lists, verdict)?;

@@ -1,13 +1,15 @@
 //! The answer to `test`: whether lists are as a file of expectations says.
-ghost use Rattle.std.specs.Prelude.{◌≡◌, ◌≢◌, [], List, All, IfOk, false, map, string_bytes};
+ghost use Rattle.std.specs.Prelude.{◌≡◌, ◌≢◌, [], List, All, IfOk, false, map, string_bytes, true};
 ghost use Rattle.mq_acl.specs.declared.rules.Rules.{Rules};
 ghost use Rattle.mq_acl.specs.declared.rules.Rules.TheVariants.{Mosquitto};
 ghost use Rattle.mq_ask.specs.Notes.{EndsWithLimit};
 ghost use Rattle.mq_ask_test.specs.Findings.{IsVerdict};
+ghost use Rattle.mq_ask_test.specs.Objects.{AreVerdictsShown};
 ghost use Rattle.mq_ask_test.specs.Questions.{asked_view, questions};
 ghost use Rattle.mq_ask_test.specs.Tested.{ShowsTested};
 ghost use Rattle.mq_ask_test.specs.declared.list.ReadList.{ReadList};
 ghost use Rattle.mq_expect.specs.Files.{numbered_views};
+ghost use Rattle.mq_print.specs.Lists.{list_view};
 
 use crate::fault::TestFault;
 use crate::junit::junit_text;
@@ -110,6 +112,10 @@ pub fn test_lists<'t>(
         questions (map (λ file. file.now) given.now) (numbered_views expectations.now) ≢ []) }
     ensures limited { IfOk result (λ shown. options.rules ≡ Mosquitto → options.json ≡ false
         → EndsWithLimit (string_bytes shown.text)) }
+    ensures json { IfOk result (λ shown. options.json ≡ true
+        → AreVerdictsShown options.rules lists.now (list_view expected.entry)
+        (questions (map (λ file. file.now) given.now) (numbered_views expectations.now))
+        (string_bytes shown.text)) }
 {
     let rules = options.rules;
     let verdicts = match judge_all(alloc, rules, given, expectations, lists, options.steps) {

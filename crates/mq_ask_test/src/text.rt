@@ -1,7 +1,10 @@
 //! The verdicts, in words and as JSON.
-ghost use Rattle.std.specs.Prelude.{◌≡◌, IfOk, false, string_bytes};
+ghost use Rattle.std.specs.Prelude.{◌≡◌, ◌++◌, IfOk, List, false, string_bytes, true, ℕ};
 ghost use Rattle.mq_acl.specs.declared.rules.Rules.TheVariants.{Mosquitto};
 ghost use Rattle.mq_ask.specs.Notes.{EndsWithLimit};
+ghost use Rattle.mq_ask_test.specs.Objects.{AreTestObjects, AreVerdictTexts, count_members};
+ghost use Rattle.mq_print.specs.Lists.{list_view};
+ghost use Rattle.mq_print.specs.Objects.{object_text};
 
 use crate::case::{Case, Decided, case_of};
 use crate::finding::Finding;
@@ -129,7 +132,11 @@ fn said(
     lists: &[ReadList<'_, '_>],
     verdicts: &[Verdict<'_, '_>],
     json: bool,
-) -> Result<String, AllocError> {
+) -> Result<String, AllocError>
+    ensures { IfOk result (λ text. json ≡ true → (objects : List ℕ)
+        × AreVerdictTexts lists.now (list_view expectations.entry) verdicts.now objects
+        × (string_bytes text ≡ objects ++ object_text (count_members verdicts.now))) }
+{
     let lines = lines_of(alloc, expectations.text)?;
     let expectations = Lines {
         file: expectations.file,
@@ -153,6 +160,8 @@ pub fn verdicts_text(
 ) -> Result<String, AllocError>
     ensures limited { IfOk result (λ text. rules ≡ Mosquitto → json ≡ false
         → EndsWithLimit (string_bytes text)) }
+    ensures objects { IfOk result (λ text. json ≡ true → AreTestObjects rules lists.now
+        (list_view expectations.entry) verdicts.now (string_bytes text)) }
 {
     let mut text = said(alloc, rules, expectations, lists, verdicts, json)?;
     add_who_limit(alloc, &mut text, rules, json)?;
