@@ -1,0 +1,92 @@
+"""The definitions of what mqroute-acl writes as JSON have the members of
+schemas/acl-answer.schema.json, each of its kind, and no others."""
+import json
+import pathlib
+import re
+import sys
+import unittest
+
+TOP = pathlib.Path(__file__).resolve().parent.parent
+sys.path.append(str(TOP / "dev"))
+
+import json_tables  # noqa: E402
+
+# Where the members of each object of the schema are said.
+DEFINED = {
+    "line": [("mq_print/specs/Objects.antt", "line_data")],
+    "limit": [("mq_ask/specs/Objects.antt", "limit_text")],
+    "not_asked": [("mq_ask/specs/Objects.antt", "not_asked_text")],
+    "refused": [("mq_ask/specs/Objects.antt", "refused_text")],
+    "difference": [("mq_ask_compare/specs/Changed.antt", "change_members")],
+    "verdict": [("mq_ask_why/specs/Explained.antt", "verdict_members"),
+                ("mq_ask_why/specs/Explained.antt", "with_refused")],
+    "remark": [("mq_ask_lint/specs/Objects.antt", "said_members")],
+    "limit_of_file": [("mq_ask_lint/specs/Objects.antt", "limited_text")],
+    "reached": [("mq_ask_reach/specs/Objects.antt", "topic_members")],
+    "reached_by_any": [("mq_ask_who/specs/AnyShown.antt", "any_members")],
+    "unreached": [("mq_ask_reach/specs/Objects.antt", "subscription_members")],
+    "subscription_sums": [("mq_ask_reach/specs/Objects.antt", "count_members")],
+    "permission": [("mq_ask_who/specs/WhoShown.antt", "permission_members")],
+    "exception": [("mq_ask_who/specs/WhoShown.antt", "refusal_data")],
+    "expectation": [("mq_ask_test/specs/Objects.antt", "verdict_members")],
+    "expectation_sums": [("mq_ask_test/specs/Objects.antt", "count_members")],
+}
+# The fields that no definition has: the counts of publishes, and what a plan adds.
+UNDEFINED = {"publishes", "topics", "new_topic", "rule"}
+MEMBER = re.compile(r'put \(codes "(\w+)"\)\s+\((\w+)')
+LINE = [{"$ref": "#/$defs/line"}, {"type": "null"}]
+
+
+def members_of(text, name):
+    """The members that a definition puts, each with the word for its kind."""
+    clauses = re.findall(rf"^{name} .*=(?:\n    .*|.)*", text, re.M)
+    return dict(MEMBER.findall("\n".join(clauses)))
+
+
+def kind_of(field):
+    """The word of a definition for a value of this kind."""
+    if field.get("anyOf") == LINE:
+        return "line_data"
+    if None in field.get("enum", []) or field.get("type") == ["string", "null"]:
+        return "text_data"
+    if "enum" in field:
+        return "string"
+    kinds = {"string": "string", "integer": "whole_data", "boolean": "boolean", "array": "array"}
+    if field.get("type") == ["integer", "null"]:
+        return "number_data"
+    return "boolean" if field.get("const") is True else kinds[field["type"]]
+
+
+class Members(unittest.TestCase):
+    def setUp(self):
+        schema = json.loads(json_tables.SCHEMA.read_text(encoding="utf-8"))
+        self.objects = {name: one["properties"] for name, one in schema["$defs"].items()
+                        if "properties" in one}
+
+    def test_each_object_is_defined(self):
+        self.assertEqual(set(DEFINED), set(self.objects))
+
+    def test_they_are_those_of_the_schema(self):
+        for name, places in DEFINED.items():
+            found = {}
+            for path, definition in places:
+                text = (TOP / "crates" / path).read_text(encoding="utf-8")
+                found |= members_of(text, definition)
+            wanted = {field: kind_of(form) for field, form in self.objects[name].items()
+                      if field not in UNDEFINED}
+            with self.subTest(name):
+                self.assertEqual(found, wanted)
+
+    def test_undefined_fields_may_be_absent(self):
+        schema = json.loads(json_tables.SCHEMA.read_text(encoding="utf-8"))
+        for one in schema["$defs"].values():
+            self.assertFalse(UNDEFINED & set(one.get("required", [])))
+
+    def test_a_member_of_another_kind(self):
+        text = 'm a =\n    put (codes "x") (text_data a) (\n    put (codes "y") (string a) none)\n'
+        self.assertEqual(members_of(text + '\nn b = put (codes "z") (string b) none\n', "m"),
+                         {"x": "text_data", "y": "string"})
+
+
+if __name__ == "__main__":
+    unittest.main()
