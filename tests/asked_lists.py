@@ -4,6 +4,7 @@ import itertools
 import json
 
 from plain_lists import Row, accesses, allowed, deciding, limits_of
+from worded_answers import faults_of_words, placeholders_of, who_words
 
 
 def number_of(row):
@@ -25,6 +26,9 @@ def faults_of_permission(rules, rows, asked, shown):
                 or (each["line"] and each["line"]["line"]) != number_of(row)
                 or whom(rows, user) != whom(rows, shown["user"])):
             yield f"who: {each} isn't so, by {row}"
+    unnamed = placeholders_of(rules, rows, asked.filter, shown)
+    if set(shown["placeholders"]) != unnamed:
+        yield f"who: {shown} has other placeholders than {unnamed}"
 
 
 def faults_of_missing(rules, rows, asked, shown, asked_about):
@@ -60,6 +64,8 @@ def faults_of_who(rules, run, folder, wanted, rows, asked_about, left_out):
     for each in shown:
         yield from faults_of_permission(rules, rows, asked, each)
     yield from faults_of_missing(rules, rows, asked, shown, asked_about)
+    yield from faults_of_words(run, folder, [*words, "--", wanted],
+                               who_words(rules, rows, wanted, shown, last))
     only = ",".join(left_out)
     left = {None if word == "-" else word for word in left_out}
     others = [each for each in shown if whom(rows, each["user"]) not in left]

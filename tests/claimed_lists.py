@@ -7,6 +7,7 @@ from xml.etree import ElementTree
 
 from asked_lists import number_of
 from plain_lists import Row, allowed, deciding, limits_of
+from worded_answers import any_words, faults_of_words, tested_words
 
 HOLDS = {"": "every", "some ": "some", "not ": "none"}
 ACCESSES = {"read": ["read"], "write": ["write"], "readwrite": ["read", "write"]}
@@ -111,6 +112,9 @@ def faults_of_claims(rules, run, folder, chance, random_filter, rows, asked_abou
             or done.returncode != (0 if hold == len(claims) else 1)):
         yield f"test: status {done.returncode}: {done.stdout}{done.stderr}{lines}"
         return
+    yield from faults_of_words(
+        run, folder, ["test", *rules.words, "--json", "old.expected", "old.acl"],
+        tested_words(rules, [*shown, *counts]))
     for claim, each in zip(claims, shown):
         yield from faults_of_verdict(rules, rows, claim, each, asked_about)
     suite = ElementTree.parse(pathlib.Path(folder, "old.xml")).find("testsuite")
@@ -134,6 +138,9 @@ def faults_of_any(rules, run, folder, user, wanted, rows, asked_about):
     if (done.returncode != (1 if shown["topic"] is None else 0) or shown["user"] != user
             or limits != limits_of(rules, True)):
         yield f"reach --any {wanted}: status {done.returncode}: {shown}"
+    yield from faults_of_words(
+        run, folder, ["reach", *rules.words, "--json", "old.acl", f"--any={wanted}", *named],
+        any_words(rules, shown))
     claim = Claim(user or "anonymous", "not ", "read", wanted, ())
     if shown["topic"] is not None:
         decided = shown | {"access": "read", "decided": shown["line"]}

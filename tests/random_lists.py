@@ -15,6 +15,7 @@ from plain_lists import (
     MosquittoRules, OwnRules, accesses, allowed, deciding, filter_matches, has_patterns, limits_of,
     rows_of)
 from shown_differences import faults_of_placeholders, faults_of_shown, line_of
+from worded_answers import faults_of_words, lint_words, reach_words, why_words
 from worded_differences import words_of
 
 PROGRAM = pathlib.Path(__file__).resolve().parent.parent / "bin/mqroute-acl"
@@ -183,6 +184,7 @@ def faults_of_why(rules, folder, chance, text):
         asked = run([*words[:-3], "--may", each["access"], *words[-3:]], folder)
         if asked.returncode != (0 if may else 1) or asked.stdout != done.stdout:
             yield f"{words} --may {each['access']}: status {asked.returncode}"
+    yield from faults_of_words(run, folder, words, why_words(rows, client, user, topic, shown))
 
 
 def faults_of_reach(rules, folder, chance, text):
@@ -195,6 +197,7 @@ def faults_of_reach(rules, folder, chance, text):
     shown = json.loads(done.stdout)
     if shown["filter"] != share + wanted or done.returncode != (1 if shown["topic"] is None else 0):
         yield f"{words}: status {done.returncode}: {done.stdout}{done.stderr}"
+    yield from faults_of_words(run, folder, words, reach_words(rows, client, user, shown))
     for topic in TOPICS if shown["topic"] is None else [shown["topic"]]:
         found = (filter_matches(wanted, topic)
                  and allowed(rules, rows, client, user, topic, "read"))
@@ -335,6 +338,9 @@ def faults_of_needless(rules, folder, lines):
             or any(each["kind"] not in kinds for each in counted)):
         yield f"lint: status {done.returncode}: {done.stdout}{done.stderr}"
     yield from faults_of_noted(rules, done.stderr, {"old.acl": rows})
+    if shown:
+        words = ["lint", *rules.words, "--json", "old.acl"]
+        yield from faults_of_words(run, folder, words, lint_words(shown))
     if bool([each for each in shown if each["kind"] == "empty"]) != (not rows):
         yield f"lint: {lines} allow something, or nothing"
     of_kind = {kind: {each["line"]: each["other"] for each in shown if each["kind"] == kind}
