@@ -66,13 +66,13 @@ def faults_of_who(rules, run, folder, wanted, rows, asked_about, left_out):
     yield from faults_of_missing(rules, rows, asked, shown, asked_about)
     yield from faults_of_words(run, folder, [*words, "--", wanted],
                                who_words(rules, rows, wanted, shown, last))
-    only = ",".join(left_out)
+    names = ",".join(left_out)
     left = {None if word == "-" else word for word in left_out}
     others = [each for each in shown if whom(rows, each["user"]) not in left]
-    done = run([*words, f"--only={only}", "--", wanted], folder)
+    done = run([*words, f"--except={names}", "--", wanted], folder)
     if ([json.loads(line) for line in done.stdout.splitlines()], done.returncode) != (
             others + last, 1 if others else 0):
-        yield f"who {wanted} --only {only}: status {done.returncode}: {done.stdout}"
+        yield f"who {wanted} --except {names}: status {done.returncode}: {done.stdout}"
 
 
 def cases_of(users, clients, topics):

@@ -15,9 +15,7 @@ from mqroute_tools import cli, questions  # noqa: E402
 from mqroute_tools.common.arguments import Parser  # noqa: E402
 
 OPTION = re.compile(r"^  (?:-h, )?(--[a-z-]+)(?: (\S.*?))?(?:  .*)?$", re.M)
-ARGUMENT = re.compile(r'Argument\(\s*"([a-z-]+)",\s*ArgumentKind::(\w+)(?:\("([A-Z]+)"\))?')
-# The one option with two meanings: `who --only USERS` leaves users out.
-SECOND_MEANINGS = {("--only", "USERS")}
+ARGUMENT = re.compile(r'Argument\(\s*"([a-z-]+)",\s*ArgumentKind::(\w+)(?:\("([A-Z]+)"(?:, "[a-z-]+")?\))?')
 # What stands for the positional arguments of all commands.
 POSITIONALS = {
     "OLD", "NEW", "LIST", "EXPECTED", "CLIENT", "TOPIC", "FILTER", "SCRIPT", "LINE", "LOG",
@@ -56,10 +54,9 @@ def options_of_programs():
     for program, crate in (("mqroute", "mq_cli"), ("mqroute-acl", "mq_acl_args")):
         source = (TOP / "crates" / crate / "src/command_line.rt").read_text("utf-8")
         for name, kind, takes in ARGUMENT.findall(source):
-            if kind in ("Option", "Number", "Flag"):
+            if kind in ("Option", "Renamed", "Number", "Flag"):
                 option, takes = f"--{name}", "N" if kind == "Number" else takes
-                if (option, takes) not in SECOND_MEANINGS:
-                    yield program, option, takes
+                yield program, option, takes
 
 
 def options():
@@ -102,7 +99,7 @@ class Options(unittest.TestCase):
 
 
 class OldSpellings(unittest.TestCase):
-    """They are taken, and no help has them."""
+    """They are taken, and no help has them. Of the programs tests/acl/who.rows has the one."""
     KEPT = {"who-loses": {"--acl-before": "--old-acl-file", "--acl-after": "--new-acl-file",
                           "--new": "--new-script"},
             "preview": {"--keep": "--save"}, "replay": {"--username": "--user"},

@@ -16,7 +16,7 @@ use Rattle.mq_acl.specs.declared.rules.Rules.TheVariants.{Mosquitto}
 use Rattle.mq_differences.specs.declared.way.Way.{Way}
 use Rattle.mq_differences.specs.declared.way.Way.TheVariants.{Gained, Lost}
 use Rattle.mq_args.specs.Arguments.{any_arguments, flag, number_option, option, optional_argument}
-use Rattle.mq_args.specs.Arguments.{required_argument}
+use Rattle.mq_args.specs.Arguments.{renamed_option, required_argument}
 use Rattle.mq_args.specs.Arguments.{several_arguments, rule_for, with_rules}
 use Rattle.mq_args.specs.Numbers.{number_in}
 use Rattle.mq_args.specs.declared.usage.UsageFault.{UsageFault}
@@ -68,9 +68,13 @@ may_option = option (codes "may")
 abbrev pub questions_option : Rule
 questions_option = option (codes "questions")
 
--- `--only USERS`, or `--only WAY`
+-- `--only WAY`
 abbrev pub only_option : Rule
 only_option = option (codes "only")
+
+-- `--except USERS`, once `--only USERS`
+abbrev pub except_option : Rule
+except_option = renamed_option (codes "except") (codes "only")
 
 -- `--script SCRIPT`
 abbrev pub script_option : Rule
@@ -117,12 +121,12 @@ reach =
     ∷ optional_argument (codes "FILTER") ∷ any_option ∷ user_option ∷ script_option
     ∷ steps_option ∷ rules_option ∷ [])
 
--- `who LIST FILTER [--access ACCESS] [--only USERS] [--script SCRIPT] [--steps N] [--rules RULES] [--json]`
+-- `who LIST FILTER [--access ACCESS] [--except USERS] [--script SCRIPT] [--steps N] [--rules RULES] [--json]`
 abbrev pub who : App
 who =
     with_rules (new_app (codes "who"))
     (required_argument (codes "LIST") ∷ json_flag ∷ required_argument (codes "FILTER")
-    ∷ access_option ∷ only_option ∷ script_option ∷ steps_option ∷ rules_option ∷ [])
+    ∷ access_option ∷ except_option ∷ script_option ∷ steps_option ∷ rules_option ∷ [])
 
 -- `test EXPECTED [LIST..] [--junit JUNIT] [--steps N] [--rules RULES] [--json]`
 abbrev pub test : App
@@ -156,7 +160,7 @@ pub data Asked : Type 0 where
   Reach : (file : Text) (client : ClientAsked) (filter : Text) → Asked
   ReachAny : (file : Text) (user : Option Text) (wanted : Text) → Asked
   ReachAll : (file script : Text) → Asked
-  Who : (file wanted : Text) (access : Option Direction) (only script : Option Text) → Asked
+  Who : (file wanted : Text) (access : Option Direction) (except script : Option Text) → Asked
   Test : (expected : Text) (lists : List Text) (junit : Option Text) → Asked
 
 abbrev pub way_named : Text → Option Way
@@ -257,15 +261,15 @@ reach_asked_by rows =
     (first_of (codes "any") rows)
 
 abbrev pub who_asked : (file wanted : Option Text) → Option (Option Direction)
-    → (only script : Option Text) → Option Asked
-who_asked (Some file) (Some wanted) (Some access) only script =
-    Some (Who file wanted access only script)
-who_asked file wanted access only script = None
+    → (except script : Option Text) → Option Asked
+who_asked (Some file) (Some wanted) (Some access) except script =
+    Some (Who file wanted access except script)
+who_asked file wanted access except script = None
 
 abbrev pub who_asked_by : List Row → Option Asked
 who_asked_by rows =
     who_asked (first_of (codes "LIST") rows) (first_of (codes "FILTER") rows)
-    (access_asked (codes "access") rows) (first_of (codes "only") rows)
+    (access_asked (codes "access") rows) (first_of (codes "except") rows)
     (first_of (codes "script") rows)
 
 -- of a file of expectations, and the lists that are given, if some are
@@ -370,7 +374,7 @@ files_of (Lint files) = files
 files_of (Reach file client filter) = file ∷ []
 files_of (ReachAny file user wanted) = file ∷ []
 files_of (ReachAll file script) = file ∷ script ∷ []
-files_of (Who file wanted access only script) = file ∷ script_file script
+files_of (Who file wanted access except script) = file ∷ script_file script
 files_of (Test expected lists junit) = expected ∷ lists
 
 -- no more than one of them is standard input

@@ -11,8 +11,8 @@ ghost use Rattle.mq_acl_args.specs.CommandLine.{IsFaultOf};
 
 use crate::help::{
     ABOUT, ACCESS_HELP, AFTER_HELP, ANY_HELP, CLIENT_HELP, COMPARE_ABOUT, COMPARE_AFTER_HELP,
-    EXPECTED_HELP, FILE_HELP, FILES_HELP, FILTER_HELP, JSON_HELP, JUNIT_HELP, LINT_ABOUT,
-    LINT_AFTER_HELP, LISTS_HELP, MAY_HELP, NEW_HELP, OLD_HELP, ONLY_HELP, PLAN_HELP,
+    EXCEPT_HELP, EXPECTED_HELP, FILE_HELP, FILES_HELP, FILTER_HELP, JSON_HELP, JUNIT_HELP,
+    LINT_ABOUT, LINT_AFTER_HELP, LISTS_HELP, MAY_HELP, NEW_HELP, OLD_HELP, PLAN_HELP,
     PUBLISHES_HELP, QUESTIONS_HELP, REACH_ABOUT, REACH_AFTER_HELP, RULES_HELP, SCRIPT_HELP,
     STEPS_HELP, SUBSCRIBER_HELP, TEST_ABOUT, TEST_AFTER_HELP, TOPIC_HELP, USER_HELP, WANTED_HELP,
     WAY_HELP, WHO_ABOUT, WHO_AFTER_HELP, WHY_ABOUT, WHY_AFTER_HELP,
@@ -139,7 +139,7 @@ const REACH: Subcommand<'static> = Subcommand {
     ],
 };
 
-// `who LIST FILTER [--access ACCESS] [--only USERS] [--script SCRIPT] [--steps N] [--rules RULES] [--json]`
+// `who LIST FILTER [--access ACCESS] [--except USERS] [--script SCRIPT] [--steps N] [--rules RULES] [--json]`
 const WHO: Subcommand<'static> = Subcommand {
     name: "who",
     about: WHO_ABOUT,
@@ -149,7 +149,11 @@ const WHO: Subcommand<'static> = Subcommand {
         Argument("json", ArgumentKind::Flag, JSON_HELP),
         Argument("FILTER", ArgumentKind::Required, WANTED_HELP),
         Argument("access", ArgumentKind::Option("ACCESS"), ACCESS_HELP),
-        Argument("only", ArgumentKind::Option("USERS"), ONLY_HELP),
+        Argument(
+            "except",
+            ArgumentKind::Renamed("USERS", "only"),
+            EXCEPT_HELP,
+        ),
         Argument("script", ArgumentKind::Option("SCRIPT"), PUBLISHES_HELP),
         Argument("steps", ArgumentKind::Number, STEPS_HELP),
         Argument("rules", ArgumentKind::Option("RULES"), RULES_HELP),

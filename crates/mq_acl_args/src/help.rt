@@ -15,12 +15,12 @@ rules of our own, and leaves out none. A file - is standard input.
 Exit status:
   0  compare: both lists allow the same, or differ only in the other way than
      --only says. lint: no remark, or only on lines that deny nothing. reach:
-     each subscription can receive something. who: answered, or with --only
+     each subscription can receive something. who: answered, or with --except
      nobody else may. why: answered, or with --may the client may. test: each
      line of EXPECTED holds
   1  the lists differ, lint has a remark, a subscription can receive nothing,
-     somebody other than those of --only may, the client may not, or a line of
-     EXPECTED doesn't hold. Where a user isn't asked about: compare, who --only
+     somebody other than those of --except may, the client may not, or a line of
+     EXPECTED doesn't hold. Where a user isn't asked about: compare, who --except
   2  the arguments aren't understood, an access list can't be opened, read or
      understood, EXPECTED can't be opened or read or expects nothing, a line of
      QUESTIONS asks nothing, a script can't be opened or read or has no command,
@@ -223,7 +223,7 @@ pub(crate) const MAY_HELP: &str =
 
 pub(crate) const WAY_HELP: &str = "Show differences of this way alone: gained or lost";
 
-pub(crate) const ONLY_HELP: &str =
+pub(crate) const EXCEPT_HELP: &str =
     "Leave out these users, between commas: - no user name, * users without lines";
 
 pub(crate) const WHO_ABOUT: &str = "Shows who may read and write the topics that a filter matches";
@@ -234,7 +234,7 @@ name that has lines of its own, and for all others: they may every topic that th
 filter matches; or, for each line that decides, a topic that they may, and what
 deny lines take away. Those that may nothing are not listed.
 
---only leaves out those users, and the status is 1 if anybody else may.
+--except leaves out those users, and the status is 1 if anybody else may.
 
 --script SCRIPT counts how many publishes of the script each answer is about at
 most: those to topics that FILTER and the filter of the line match, where %c and

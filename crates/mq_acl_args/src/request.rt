@@ -290,7 +290,7 @@ fn reach_in<'a>(matches: &ArgMatches<'a>) -> Option<Question<'a>>
 fn who_in<'a>(matches: &ArgMatches<'a>) -> Option<Question<'a>>
     ensures { option_map question_view result ≡ who_asked_by (rows_of (found_of matches.now)) }
 {
-    let only = value(matches, "only");
+    let except = value(matches, "except");
     match (
         value(matches, "LIST"),
         value(matches, "FILTER"),
@@ -299,7 +299,10 @@ fn who_in<'a>(matches: &ArgMatches<'a>) -> Option<Question<'a>>
         (Some(file), Some(wanted), Some(access)) => Some(Question::Who(Who {
             file,
             wanted,
-            selection: Selection { access, only },
+            selection: Selection {
+                access,
+                only: except,
+            },
             script: value(matches, "script"),
         })),
         _ => None,

@@ -27,6 +27,10 @@ any_arguments name = record (optional_argument name) { action = Some Append }
 abbrev pub option : Text → Rule
 option name = record (new_rule name) { long = Some name; value_names = 1 }
 
+-- the same, also taken by an old name
+abbrev pub renamed_option : Text → (old : Text) → Rule
+renamed_option name old = record (option name) { aliases = old ∷ [] }
+
 -- an option that takes a whole number of 32 bits, with no minus before it
 abbrev pub number_option : Text → Rule
 number_option name = record (new_rule name) {
@@ -45,6 +49,7 @@ rule_of_kind name takes.Several = several_arguments name
 rule_of_kind name (takes.Optional value) = optional_argument name
 rule_of_kind name takes.Any = any_arguments name
 rule_of_kind name (takes.Option value) = option name
+rule_of_kind name (takes.Renamed value old) = renamed_option name old.now
 rule_of_kind name takes.Number = number_option name
 rule_of_kind name takes.Flag = flag name
 

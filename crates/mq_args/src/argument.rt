@@ -25,6 +25,8 @@ pub enum ArgumentKind<'a> {
     Any,
     /// `--NAME VALUE`
     Option(&'a str),
+    /// The same, also taken by an old name, which help leaves out.
+    Renamed(&'a str, &'a str),
     /// `--NAME N`, a whole number of 32 bits.
     Number,
     /// `--NAME`
@@ -34,12 +36,13 @@ pub enum ArgumentKind<'a> {
 impl<'a> Argument<'a> {
     // In the words of `clap`. The parser of an unsigned number refuses every minus sign; that of
     // `u32` takes `-0` for 0.
-    fn arg(&self, alloc: Global) -> Arg<'a>
-        ensures { (rule_of result ≡ rule_for self.now) × (result.global ≡ false) }
+    fn arg(&self, alloc: Global) -> Result<Arg<'a>, AllocError>
+        ensures rule { IfOk result (λ a. rule_of a ≡ rule_for self.now) }
+        ensures local { IfOk result (λ a. a.global ≡ false) }
     {
         let Argument(name, kind, help) = *self;
         let arg = Arg::new(alloc, name).help(help);
-        match kind {
+        Ok(match kind {
             ArgumentKind::Required => arg.value_name(name).required(true),
             ArgumentKind::Several => arg
                 .value_name(name)
@@ -48,12 +51,13 @@ impl<'a> Argument<'a> {
             ArgumentKind::Optional(value) => arg.value_name(value),
             ArgumentKind::Any => arg.value_name(name).action(ArgAction::Append),
             ArgumentKind::Option(value) => arg.long(name).value_name(value),
+            ArgumentKind::Renamed(value, old) => arg.long(name).alias(old)?.value_name(value),
             ArgumentKind::Number => arg
                 .long(name)
                 .value_name("N")
                 .value_parser(ValueParser::unsigned(0, u64::from(u32::MAX))),
             ArgumentKind::Flag => arg.long(name).action(ArgAction::SetTrue),
-        }
+        })
     }
 }
 
@@ -84,7 +88,7 @@ pub fn with_arguments<'a>(
         → IfOk result (λ c. (fields_of c).has_globals ≡ false) }
 {
     for argument in arguments {
-        command = command.arg(argument.arg(alloc))?;
+        command = command.arg(argument.arg(alloc)?)?;
     }
     Ok(command)
 }

@@ -9,9 +9,9 @@ pub loop-argument-preserved : goal.loop-argument-preserved
 loop-argument-preserved c = (
   argument_added c.loop-argument.command c.in_ok-command.command c.args.arguments.now
       c.loop-argument.argument-index _ c.loop-argument-test.true c.in_ok-command.ensures
-      c.arg.ensures c.loop-argument.invariant.0,
+      (c.in_ok-arg.ensures.rule, c.in_ok-arg.ensures.local) c.loop-argument.invariant.0,
   λ is_local. argument_local c.loop-argument.command c.in_ok-command.command
-      c.in_ok-command.ensures c.arg.ensures.1 (c.loop-argument.invariant.1 is_local),
+      c.in_ok-command.ensures c.in_ok-arg.ensures.local (c.loop-argument.invariant.1 is_local),
 )
 
 pub returns-clause-app : goal.returns-clause-app
