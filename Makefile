@@ -88,7 +88,9 @@ install: programs
 	    install -D -m 644 tools/$$module $(INSTALLED)/lib/mqroute/$$module || exit 1; \
 	done
 	{ PYTHONPATH=tools python3 -B -m mqroute_tools.common.version 2> /dev/null || echo unknown; } > $(INSTALLED)/lib/mqroute/mqroute_tools/VERSION
-	chmod 644 $(INSTALLED)/lib/mqroute/mqroute_tools/VERSION
+	PYTHONPATH=tools python3 -B -m mqroute_tools.common.built $(INSTALLED)/bin/mqroute $(INSTALLED)/bin/mqroute-acl \
+	    > $(INSTALLED)/lib/mqroute/mqroute_tools/PROGRAMS 2> /dev/null || true
+	chmod 644 $(INSTALLED)/lib/mqroute/mqroute_tools/VERSION $(INSTALLED)/lib/mqroute/mqroute_tools/PROGRAMS
 	install -m 644 tools/mqroute.py tools/mqroute_strategies.py $(INSTALLED)/lib/mqroute
 	install -m 755 tools/mqr.py $(TOOLS:%=tools/%.py) $(INSTALLED)/lib/mqroute
 	ln -sf ../lib/mqroute/mqr.py $(INSTALLED)/bin/mqr

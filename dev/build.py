@@ -23,6 +23,10 @@ import time
 
 import toolchain
 
+sys.path.append(str(pathlib.Path(__file__).resolve().parent.parent / "tools"))
+from mqroute_tools.common.built import NAME as RECORD, line_of  # noqa: E402
+from mqroute_tools.common.version import UNKNOWN, of_clone  # noqa: E402
+
 TOP = pathlib.Path(__file__).resolve().parent.parent
 BIN = TOP / "bin"
 LOG = BIN / "build.log"
@@ -54,7 +58,8 @@ def lay_out(folder, crates):
 
 
 def take_programs(folder):
-    """Copies the programs that were built below this folder into bin/; True if both are there."""
+    """Copies the programs that were built below this folder into bin/, with what they are of; True
+    if both are there."""
     BIN.mkdir(exist_ok=True)
     for name, crate in PROGRAMS.items():
         built = folder / "crates" / crate / "out" / crate
@@ -63,6 +68,9 @@ def take_programs(folder):
         shutil.copy2(built, BIN / f"{name}.new")
         os.utime(BIN / f"{name}.new")
         os.replace(BIN / f"{name}.new", BIN / name)
+    said = f"{of_clone() or UNKNOWN}, proved by {toolchain.version()}"
+    lines = [line_of(BIN / name, name, said) for name in PROGRAMS]
+    (BIN / RECORD).write_text("\n".join(lines) + "\n", encoding="utf-8")
     return True
 
 

@@ -37,6 +37,8 @@ grep -rhoE 'brokers/differences/[a-z-]+\.jsonl' docs/guide docs/reference | sort
 
 # As Debian has it: no symbols, pages packed, the system's python3.
 strip "$usr/bin/mqroute" "$usr/bin/mqroute-acl"
+PYTHONPATH=tools python3 -B -m mqroute_tools.common.built "$usr/bin/mqroute" "$usr/bin/mqroute-acl" \
+    > "$usr/lib/mqroute/mqroute_tools/PROGRAMS" # with their checksums as they are now
 gzip -9n "$usr"/share/man/man1/*.1 "$usr"/share/man/man7/*.7
 sed -i '1s,^#!/usr/bin/env python3$,#!/usr/bin/python3,' "$usr"/lib/mqroute/*.py
 printf 'mqroute (%s) unstable; urgency=medium\n\n  * Commit %s.\n\n -- %s  %s\n' "$version" "$commit" \

@@ -149,8 +149,9 @@ def answer(words: list[str]) -> int:
         print(table(), end="")
         return 0
     if name == "--version":
+        from .common.built import versions
         from .common.version import version
-        print(MQR, version())
+        print("\n".join((f"{MQR} {version()}", *versions())))
         return 0
     if name in TOOLS:
         sys.argv = [f"{MQR} {name}", *given]

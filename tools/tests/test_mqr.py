@@ -123,7 +123,8 @@ class Tools(Case):
         self.assertEqual((done.returncode, done.stdout), (2, ""))
         self.assertRegex(done.stderr, r"\Amqr check: log: .*: see mqr log-to-script \(.*\n\Z")
         self.assertEqual(self.run_mqr("why", "--version").stdout.split()[:2], ["mqr", "why"])
-        self.assertRegex(self.run_mqr("--version").stdout, r"\Amqr \S+\n\Z")
+        self.assertRegex(self.run_mqr("--version").stdout,
+                         r"\Amqr \S+\nmqroute:? .*\nmqroute-acl:? .*\n\Z")
 
     def test_no_such_subcommand(self):
         for words, said in ((["prevew"], "there is no mqr prevew (preview?): mqr help shows what "

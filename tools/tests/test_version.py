@@ -32,7 +32,8 @@ class Version(unittest.TestCase):
             [sys.executable, self.top / f"tools/{tool}.py", *words, "--version"],
             capture_output=True, text=True, cwd=self.top, env=self.around | around)
         self.assertEqual((done.returncode, done.stderr), (0, ""))
-        [line] = done.stdout.splitlines()
+        line, *programs = done.stdout.splitlines()
+        self.assertEqual(len(programs), 2 if (tool, *words) == ("mqr",) else 0)
         return line
 
     def git(self, *words: str) -> str:

@@ -1,14 +1,14 @@
 -- The command line of the program, in the words of `clap`.
 use Rattle.std.specs.Prelude.{◌≡◌, ◌≢◌, ◌⊎◌, ◌≤◌, ◌<◌, true, false, if◌then◌else◌, List, [], ◌∷◌}
 use Rattle.std.specs.Prelude.{Option, Some, None, option_and_then, option_map, codes, map, ⊤}
-use Rattle.std.specs.Prelude.{ℕ, Bool, unwrap_or}
+use Rattle.std.specs.Prelude.{ℕ, unwrap_or}
 use Rattle.std.specs.Option.{option_copied, option_map_or}
 use Rattle.std.specs.Str.{bytes_eq}
 use Rattle.clap.specs.Words.{App, Row, Rule, Text, Kinds, IsAmong, new_app, with_subcommand}
 use Rattle.clap.specs.Words.{all_of, first_of, one_of}
 pub use Rattle.clap.specs.Words.{fault_of, subcommand_of}
 use Rattle.clap.specs.declared.error.ErrorKind.{ErrorKind}
-use Rattle.clap.specs.declared.error.ErrorKind.TheVariants.{DisplayHelp}
+use Rattle.clap.specs.declared.error.ErrorKind.TheVariants.{DisplayHelp, DisplayVersion}
 use Rattle.mq_acl.specs.AccessLists.{rules_named}
 use Rattle.mq_acl.specs.declared.access.Direction.{Direction}
 use Rattle.mq_acl.specs.declared.rules.Rules.{Rules}
@@ -139,12 +139,16 @@ test =
 abbrev pub wanting : App → App
 wanting a = record a { top = record a.top { subcommand_required = true } }
 
+-- a command that has `--version`
+abbrev pub versioned : App → App
+versioned a = record a { top = record a.top { has_version = true } }
+
 -- `mqroute-acl compare|why|lint|reach|who|test ..`
 abbrev pub mqroute_acl : App
 mqroute_acl =
     with_subcommand (with_subcommand (with_subcommand
-    (with_subcommand (with_subcommand (with_subcommand (wanting (new_app (codes "mqroute-acl")))
-    compare.top) why.top) lint.top) reach.top) who.top) test.top
+    (with_subcommand (with_subcommand (with_subcommand
+    (wanting (versioned (new_app (codes "mqroute-acl")))) compare.top) why.top) lint.top) reach.top) who.top) test.top
 
 -- what a subcommand with these values asks
 pub record ClientAsked : Type 0 where
@@ -395,10 +399,11 @@ abbrev pub CanNotBeAsked : Option Asked → Type 0
 CanNotBeAsked None = ⊤
 CanNotBeAsked (Some question) = 1 < input_count (files_of question)
 
--- why the words are refused, unless memory ran out: they have a fault of some kind, or what they ask can't be asked
+-- why the words are refused, unless memory ran out: help or the version is asked for, they have a fault of some kind, or
+-- what they ask can't be asked
 abbrev pub IsFaultOf : List Text → Kinds → UsageFault → Type 0
-IsFaultOf words kinds (Help text) = IsAmong DisplayHelp kinds
+IsFaultOf words kinds (Help text) = IsAmong DisplayHelp kinds ⊎ IsAmong DisplayVersion kinds
 IsFaultOf words kinds (Usage text) =
-    ((k : ErrorKind) × (k ≢ DisplayHelp) × IsAmong k kinds)
+    ((k : ErrorKind) × (k ≢ DisplayHelp) × (k ≢ DisplayVersion) × IsAmong k kinds)
     ⊎ CanNotBeAsked (asked_by (subcommand_of mqroute_acl words))
 IsFaultOf words kinds Memory = Unit {0}

@@ -2,10 +2,10 @@
 ghost use Rattle.std.specs.Prelude.{◌≡◌, List, [], false, map, string_bytes, IfOk};
 ghost use Rattle.std.specs.Prelude.{OnOk, IfErr};
 ghost use Rattle.clap.specs.Words.{Text, Kinds, app_of, fault_of, subcommand_of};
-ghost use Rattle.clap.specs.Words.{subcommand_rows_of, FailsBy};
+ghost use Rattle.clap.specs.Words.{subcommand_rows_of, FailsBy, HasKind, kind_of};
 ghost use Rattle.clap.specs.declared.builder.command.Command.TheViews.{out-Command as fields_of};
 ghost use Rattle.mq_acl_args.specs.CommandLine.{mqroute_acl, app_for};
-ghost use Rattle.mq_acl_args.specs.CommandLine.{wanting, with_apps};
+ghost use Rattle.mq_acl_args.specs.CommandLine.{versioned, wanting, with_apps};
 ghost use Rattle.mq_acl_args.specs.CommandLine.{asked_by, AreGiven, CanNotBeAsked, IsGivenBy};
 ghost use Rattle.mq_acl_args.specs.CommandLine.{IsFaultOf};
 
@@ -14,11 +14,12 @@ use crate::help::{
     EXCEPT_HELP, EXPECTED_HELP, FILE_HELP, FILES_HELP, FILTER_HELP, JSON_HELP, JUNIT_HELP,
     LINT_ABOUT, LINT_AFTER_HELP, LISTS_HELP, MAY_HELP, NEW_HELP, OLD_HELP, PLAN_HELP,
     PUBLISHES_HELP, QUESTIONS_HELP, REACH_ABOUT, REACH_AFTER_HELP, RULES_HELP, SCRIPT_HELP,
-    STEPS_HELP, SUBSCRIBER_HELP, TEST_ABOUT, TEST_AFTER_HELP, TOPIC_HELP, USER_HELP, WANTED_HELP,
-    WAY_HELP, WHO_ABOUT, WHO_AFTER_HELP, WHY_ABOUT, WHY_AFTER_HELP,
+    STEPS_HELP, SUBSCRIBER_HELP, TEST_ABOUT, TEST_AFTER_HELP, TOPIC_HELP, USER_HELP, VERSION,
+    WANTED_HELP, WAY_HELP, WHO_ABOUT, WHO_AFTER_HELP, WHY_ABOUT, WHY_AFTER_HELP,
 };
 use crate::request::{Request, request_in};
 use crate::unknown::{unknown_access, unknown_rules, unknown_way};
+use clap::error::ErrorKind;
 use clap::{ArgMatches, Command, Error};
 use mq_args::{Argument, ArgumentKind, UsageFault, described, with_arguments};
 use std::alloc::{AllocError, Global};
@@ -175,16 +176,17 @@ const TEST: Subcommand<'static> = Subcommand {
     ],
 };
 
-// The command that needs one of these subcommands.
+// The command that needs one of these subcommands, with `--version`.
 fn wanting_one_of<'a>(
     alloc: Global,
     command: Command<'a>,
     subcommands: &[Subcommand<'a>],
 ) -> Result<Command<'a>, AllocError>
     ensures { IfOk result (λ c. app_of c
-        ≡ with_apps (wanting (app_of command.entry)) (map app_for subcommands.now)) }
+        ≡ with_apps (wanting (versioned (app_of command.entry))) (map app_for subcommands.now)) }
 {
-    let mut command = command.subcommand_required(true);
+    let versioned = command.version(VERSION);
+    let mut command = versioned.subcommand_required(true);
     for subcommand in subcommands {
         command = command.subcommand(subcommand.command(alloc)?)?;
     }
@@ -262,6 +264,28 @@ fn asked<'a>(alloc: Global, matches: &ArgMatches<'a>) -> Result<Request<'a>, Usa
     Ok(request)
 }
 
+// The version, which is printed as help is.
+fn version_fault(alloc: Global, error: &Error) -> UsageFault
+    ensures { kind_of error.now ≡ ErrorKind.DisplayVersion → (words : List Text)
+        → (kinds : Kinds) → HasKind kinds error.now → IsFaultOf words kinds result }
+{
+    match error.to_string(alloc) {
+        Ok(text) => UsageFault::Help(text),
+        Err(_) => UsageFault::Memory,
+    }
+}
+
+// Why `clap` didn't take the words.
+fn usage_fault(alloc: Global, error: &Error) -> UsageFault
+    ensures { (words : List Text) → (kinds : Kinds) → HasKind kinds error.now
+        → IsFaultOf words kinds result }
+{
+    match error.kind() {
+        ErrorKind::DisplayVersion => version_fault(alloc, error),
+        _ => UsageFault::of(alloc, error),
+    }
+}
+
 /// What the words of a command line ask for; the first of them is the program's name.
 pub fn arguments<'a>(alloc: Global, words: &'a [String]) -> Result<Request<'a>, UsageFault>
     ensures ok { IfOk result (AreGiven (map string_bytes words.entry.now)) }
@@ -271,6 +295,6 @@ pub fn arguments<'a>(alloc: Global, words: &'a [String]) -> Result<Request<'a>, 
 {
     match matches_in(alloc, words) {
         Ok(matches) => asked(alloc, &matches),
-        Err(error) => Err(UsageFault::of(alloc, &error)),
+        Err(error) => Err(usage_fault(alloc, &error)),
     }
 }

@@ -1,4 +1,8 @@
-//! The texts of help.
+//! The texts of help, and of `--version`.
+
+// A program can't hold the commit that it is of. Its file's checksum says that.
+pub(crate) const VERSION: &str =
+    "(mqr --version says of which commit it is, by which kit, and whether it is proved)";
 
 pub(crate) const ABOUT: &str =
     "Answers questions about mosquitto's access lists, for all clients and topics";

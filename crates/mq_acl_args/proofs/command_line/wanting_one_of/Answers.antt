@@ -1,6 +1,6 @@
 use Rattle.std.proofs.Common.{◌∙◌, ap, map, refl}
 use Rattle.clap.specs.Simple.{app_of_fields}
-use Rattle.mq_acl_args.specs.CommandLine.{app_for, with_apps}
+use Rattle.mq_acl_args.specs.CommandLine.{app_for, wanting, with_apps}
 use Rattle.mq_acl_args.proofs.CommandLineLemmas.{subcommand_added, subcommands_added}
 use Rattle.mq_acl_args.proofs.command_line.wanting_one_of.Goals as goal
 
@@ -20,4 +20,5 @@ returns c =
     subcommands_added at.command subcommands at.subcommand-index c.loop-subcommand-test.false
     at.invariant
     ∙ ap (λ a. with_apps a (map app_for subcommands))
-    (ap app_of_fields c.subcommand_required-command.ensures)
+    (ap app_of_fields c.subcommand_required-command.ensures
+    ∙ ap wanting (ap app_of_fields c.version-versioned.ensures))
