@@ -1,2 +1,3 @@
 pub mod Renamed
 pub mod Plan
+pub mod Objects

@@ -1,4 +1,8 @@
 //! What changes through a plan, as JSON.
+ghost use Rattle.std.specs.Prelude.{◌≡◌, ◌++◌, IfOk, OnOk, string_bytes};
+ghost use Rattle.mq_ask_plan.specs.Objects.{renamed_text, renamed_texts};
+ghost use Rattle.mq_print.specs.Lists.{lines_view};
+
 use crate::compared::Compared;
 use mq_ask::access_word;
 use mq_ask_cases::way_word;
@@ -12,7 +16,11 @@ fn add_one<'a>(
     text: &mut String,
     compared: Compared<'a>,
     renamed: &'a Renamed,
-) -> Result<(), AllocError> {
+) -> Result<(), AllocError>
+    ensures { OnOk result (string_bytes text.new ≡ string_bytes text.old
+        ++ renamed_text (lines_view compared.entry.old) (lines_view compared.entry.new)
+        (lines_view compared.entry.plan) renamed.entry.now) }
+{
     let difference = &renamed.difference;
     add_object(
         alloc,
@@ -43,7 +51,11 @@ pub(crate) fn json_lines(
     alloc: Global,
     compared: Compared<'_>,
     renamed: &[Renamed],
-) -> Result<String, AllocError> {
+) -> Result<String, AllocError>
+    ensures { IfOk result (λ text. string_bytes text ≡ renamed_texts
+        (lines_view compared.entry.old) (lines_view compared.entry.new)
+        (lines_view compared.entry.plan) renamed.now) }
+{
     let mut text = String::new(alloc);
     for one in renamed {
         add_one(alloc, &mut text, compared, one)?;

@@ -1,4 +1,8 @@
 //! The answer, in words or as JSON.
+ghost use Rattle.std.specs.Prelude.{◌≡◌, IfOk, string_bytes, true};
+ghost use Rattle.mq_ask_plan.specs.Objects.{renamed_texts};
+ghost use Rattle.mq_print.specs.Lists.{lines_view, list_view};
+
 use crate::compared::Compared;
 use crate::objects::json_lines;
 use crate::scope::PlanScope;
@@ -42,7 +46,11 @@ fn answer(
     scope: PlanScope,
     compared: Compared<'_>,
     renamed: Vec<Renamed>,
-) -> Result<String, AllocError> {
+) -> Result<String, AllocError>
+    ensures { IfOk result (λ text. scope.json ≡ true → string_bytes text ≡ renamed_texts
+        (lines_view compared.entry.old) (lines_view compared.entry.new)
+        (lines_view compared.entry.plan) renamed.items) }
+{
     if scope.json {
         return json_lines(alloc, compared, &renamed);
     }
@@ -59,7 +67,11 @@ pub fn renamed_text(
     lists: (ListText<'_, '_>, ListText<'_, '_>),
     plan: ListText<'_, '_>,
     renamed: Vec<Renamed>,
-) -> Result<String, AllocError> {
+) -> Result<String, AllocError>
+    ensures { IfOk result (λ text. scope.json ≡ true → string_bytes text ≡ renamed_texts
+        (list_view lists.entry.0) (list_view lists.entry.1) (list_view plan.entry)
+        renamed.items) }
+{
     let (old, new) = lists;
     let old_lines = lines_of(alloc, old.text)?;
     let new_lines = lines_of(alloc, new.text)?;

@@ -1,9 +1,13 @@
 //! The answer to `compare --plan`: what changes between two lists through a plan.
-ghost use Rattle.std.specs.Prelude.{◌≡◌, IfOk, IfErr, false, true};
+ghost use Rattle.std.specs.List.{filter};
+ghost use Rattle.std.specs.Prelude.{◌≡◌, IfOk, IfErr, OnOk, false, string_bytes, true};
 ghost use Rattle.mq_acl.specs.declared.rules.Rules.TheVariants.{Own};
 ghost use Rattle.mq_ask.specs.Statuses.{failure_status};
+ghost use Rattle.mq_ask_cases.specs.Ways.{is_way};
+ghost use Rattle.mq_ask_plan.specs.Objects.{AreThroughShown, asked_texts};
 ghost use Rattle.mq_ask_plan.specs.Plan.{IsComparedThrough, has_way};
 ghost use Rattle.mq_ask_plan.specs.Renamed.{AreRenamed};
+ghost use Rattle.mq_print.specs.Lists.{list_view};
 
 use crate::fault::PlanAnswerFault;
 use crate::find::{RenamedChanges, find_renamed};
@@ -139,7 +143,10 @@ fn asked(
     alloc: Global,
     renamed: Vec<Renamed>,
     only: Option<Way>,
-) -> Result<Vec<Renamed>, AllocError> {
+) -> Result<Vec<Renamed>, AllocError>
+    ensures { IfOk result (λ all. all.items
+        ≡ filter (λ one. is_way only one.difference.way) renamed.items) }
+{
     renamed
         .into_iter()
         .filter(|one| is_way(only, one.difference.way))
@@ -152,7 +159,11 @@ fn answer_text(
     only: Option<Way>,
     options: Options,
     renamed: Vec<Renamed>,
-) -> Result<String, AllocError> {
+) -> Result<String, AllocError>
+    ensures { IfOk result (λ text. options.json ≡ true → string_bytes text ≡ asked_texts only
+        (list_view texts.entry.old) (list_view texts.entry.new) (list_view texts.entry.plan)
+        renamed.items) }
+{
     let scope = PlanScope {
         only,
         json: options.json,
@@ -174,13 +185,15 @@ fn compare_texts<'a, W: Write>(
     ensures ok { IfOk result (IsComparedThrough options.rules only texts.entry.old.text.now
         texts.entry.new.text.now texts.entry.plan.text.now) }
     ensures unread { IfErr result (λ failure. failure_status failure ≡ 2 → out.new ≡ out.old) }
+    ensures json { OnOk result (options.json ≡ true → AreThroughShown only texts.entry.old
+        texts.entry.new texts.entry.plan (W.contents out.old) (W.contents out.new)) }
 {
     check_taken(alloc, texts.old)?;
     check_taken(alloc, texts.new)?;
     let changes = find(alloc, texts, options.steps)?;
     let outcome = outcome_of(&changes.renamed, only);
-    let text = answer_text(alloc, texts, only, options, changes.into_renamed());
-    print_outcome(out, text, outcome)
+    let text = answer_text(alloc, texts, only, options, changes.into_renamed())?;
+    print_outcome(out, Ok(text), outcome)
 }
 
 /// Shows what changes through the plan between the lists, or what is gained or lost alone, if so many
@@ -195,6 +208,8 @@ pub fn show_through<'a, W: Write>(
     ensures ok { IfOk result (IsComparedThrough options.rules only texts.entry.old.text.now
         texts.entry.new.text.now texts.entry.plan.text.now) }
     ensures unread { IfErr result (λ failure. failure_status failure ≡ 2 → out.new ≡ out.old) }
+    ensures json { OnOk result (options.json ≡ true → AreThroughShown only texts.entry.old
+        texts.entry.new texts.entry.plan (W.contents out.old) (W.contents out.new)) }
 {
     match options.rules {
         Rules::Own => compare_texts(alloc, texts, only, options, out),

@@ -1,5 +1,5 @@
 use Rattle.std.proofs.Common.{◌∙◌, ap, refl, sym, Result, Ok, Err, IfErr}
-use Rattle.std.proofs.lemmas.Result.{IfOk-weaker}
+use Rattle.std.proofs.lemmas.Result.{IfOk-weaker, on_ok_weaker}
 use Rattle.mq_ask_plan.specs.Plan.{has_way}
 use Rattle.mq_ask_plan.proofs.PlanLemmas.{compared_through}
 use Rattle.mq_ask_plan.proofs.through.compare_texts.Goals as goal
@@ -22,3 +22,12 @@ returns-clause-ok g c =
 pub returns-in_err-changes-clause-unread : goal.returns-in_err-changes-clause-unread
 returns-in_err-changes-clause-unread g c =
     for_each c.from_residual-in_err-changes.result _ (λ failure e. refl)
+
+pub returns-clause-json : goal.returns-clause-json
+returns-clause-json g c =
+    on_ok_weaker c.print_outcome.result
+    (λ written. λ json. record {
+      changes = c.in_ok-changes.changes;
+      are = c.in_ok-changes.ensures;
+      written = rw (← c.into_renamed.ensures) (rw (c.in_ok-text.ensures json) at written);
+    }) c.print_outcome.ensures.printed
