@@ -5,3 +5,4 @@ pub mod Faults
 pub mod Files
 pub mod Tested
 pub mod Objects
+pub mod Junit

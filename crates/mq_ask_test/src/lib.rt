@@ -15,6 +15,7 @@ mod test;
 mod text;
 mod verdicts;
 mod words;
+mod xml;
 
 pub use asked::Asked;
 pub use fault::TestFault;

@@ -1,9 +1,11 @@
 //! The answer to `test`: whether lists are as a file of expectations says.
-ghost use Rattle.std.specs.Prelude.{◌≡◌, ◌≢◌, [], List, All, IfOk, false, map, string_bytes, true};
+ghost use Rattle.std.specs.Prelude.{◌≡◌, ◌≢◌, [], List, All, IfOk, IsSomeAnd, None, false, map};
+ghost use Rattle.std.specs.Prelude.{string_bytes, true};
 ghost use Rattle.mq_acl.specs.declared.rules.Rules.{Rules};
 ghost use Rattle.mq_acl.specs.declared.rules.Rules.TheVariants.{Mosquitto};
 ghost use Rattle.mq_ask.specs.Notes.{EndsWithLimit};
 ghost use Rattle.mq_ask_test.specs.Findings.{IsVerdict};
+ghost use Rattle.mq_ask_test.specs.Junit.{IsSuite, IsSuiteShown};
 ghost use Rattle.mq_ask_test.specs.Objects.{AreVerdictsShown};
 ghost use Rattle.mq_ask_test.specs.Questions.{asked_view, questions};
 ghost use Rattle.mq_ask_test.specs.Tested.{ShowsTested};
@@ -86,7 +88,11 @@ fn junit_if(
     expected: ListText<'_, '_>,
     lists: &[ReadList<'_, '_>],
     verdicts: &[Verdict<'_, '_>],
-) -> Result<Option<String>, AllocError> {
+) -> Result<Option<String>, AllocError>
+    ensures suite { IfOk result (λ text. junit ≡ true → IsSomeAnd text (λ it. IsSuite rules
+        (list_view expected.entry) verdicts.now (string_bytes it))) }
+    ensures none { IfOk result (λ text. junit ≡ false → text ≡ None) }
+{
     if !junit {
         return Ok(None);
     }
@@ -116,6 +122,11 @@ pub fn test_lists<'t>(
         → AreVerdictsShown options.rules lists.now (list_view expected.entry)
         (questions (map (λ file. file.now) given.now) (numbered_views expectations.now))
         (string_bytes shown.text)) }
+    ensures junit { IfOk result (λ shown. junit ≡ true → IsSomeAnd shown.junit
+        (λ text. IsSuiteShown options.rules lists.now (list_view expected.entry)
+        (questions (map (λ file. file.now) given.now) (numbered_views expectations.now))
+        (string_bytes text))) }
+    ensures no_junit { IfOk result (λ shown. junit ≡ false → shown.junit ≡ None) }
 {
     let rules = options.rules;
     let verdicts = match judge_all(alloc, rules, given, expectations, lists, options.steps) {

@@ -1,0 +1,13 @@
+use Rattle.std.proofs.Common.{◌++◌, flat_map, sym, ap, ◌∙◌, map-id, string_bytes}
+use Rattle.std.proofs.lemmas.Iterator.{YieldsList-from_chars}
+use Rattle.std.proofs.lemmas.Iterator.Consumers.{YieldsList-end}
+use Rattle.mq_ask_test.specs.Junit.{escaped_char}
+use Rattle.mq_ask_test.proofs.xml.add_escaped.Goals as goal
+
+pub returns : goal.returns
+returns c =
+    let end = YieldsList-end (YieldsList-from_chars c.args.words.now c.utf8.words cc)
+    c.loop-c.yielded _ c.loop-c.yielded_by _ _ c.in-None.is c.next.ensures.steps in
+    c.loop-c.invariant ∙ ap (λ cs. string_bytes c.args.text.now
+    ++ flat_map (escaped_char c.args.in_attribute) cs)
+    (sym (map-id c.loop-c.yielded) ∙ end.0)
