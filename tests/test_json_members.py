@@ -31,8 +31,11 @@ DEFINED = {
     "expectation": [("mq_ask_test/specs/Objects.antt", "verdict_members")],
     "expectation_sums": [("mq_ask_test/specs/Objects.antt", "count_members")],
 }
-# The fields that no definition has: the counts of publishes, and what a plan adds.
-UNDEFINED = {"publishes", "topics", "new_topic", "rule"}
+# The fields that no definition has: the counts of publishes.
+UNDEFINED = {"publishes", "topics"}
+# Those that a difference has through a plan alone, and the definition that has them.
+OF_PLANS = {"new_topic", "rule"}
+THROUGH_A_PLAN = ("mq_ask_plan/specs/Objects.antt", "renamed_members")
 MEMBER = re.compile(r'put \(codes "(\w+)"\)\s+\((\w+)')
 LINE = [{"$ref": "#/$defs/line"}, {"type": "null"}]
 
@@ -41,6 +44,10 @@ def members_of(text, name):
     """The members that a definition puts, each with the word for its kind."""
     clauses = re.findall(rf"^{name} .*=(?:\n    .*|.)*", text, re.M)
     return dict(MEMBER.findall("\n".join(clauses)))
+
+
+def members_at(path, name):
+    return members_of((TOP / "crates" / path).read_text(encoding="utf-8"), name)
 
 
 def kind_of(field):
@@ -63,24 +70,29 @@ class Members(unittest.TestCase):
         self.objects = {name: one["properties"] for name, one in schema["$defs"].items()
                         if "properties" in one}
 
+    def kinds_in(self, name, without):
+        """The fields of an object of the schema but for these, each with its kind."""
+        return {field: kind_of(form) for field, form in self.objects[name].items()
+                if field not in without}
+
     def test_each_object_is_defined(self):
         self.assertEqual(set(DEFINED), set(self.objects))
 
     def test_they_are_those_of_the_schema(self):
         for name, places in DEFINED.items():
             found = {}
-            for path, definition in places:
-                text = (TOP / "crates" / path).read_text(encoding="utf-8")
-                found |= members_of(text, definition)
-            wanted = {field: kind_of(form) for field, form in self.objects[name].items()
-                      if field not in UNDEFINED}
+            for place in places:
+                found |= members_at(*place)
             with self.subTest(name):
-                self.assertEqual(found, wanted)
+                self.assertEqual(found, self.kinds_in(name, UNDEFINED | OF_PLANS))
+
+    def test_a_plan_adds_some(self):
+        self.assertEqual(members_at(*THROUGH_A_PLAN), self.kinds_in("difference", UNDEFINED))
 
     def test_undefined_fields_may_be_absent(self):
         schema = json.loads(json_tables.SCHEMA.read_text(encoding="utf-8"))
         for one in schema["$defs"].values():
-            self.assertFalse(UNDEFINED & set(one.get("required", [])))
+            self.assertFalse((UNDEFINED | OF_PLANS) & set(one.get("required", [])))
 
     def test_a_member_of_another_kind(self):
         text = 'm a =\n    put (codes "x") (text_data a) (\n    put (codes "y") (string a) none)\n'
