@@ -1,5 +1,6 @@
 #!/usr/bin/env python3
 """Runs dev/build.py over a small repository, with a stand-in for the toolchain."""
+import hashlib
 import os
 import pathlib
 import shutil
@@ -42,7 +43,9 @@ print(sys.argv)
 
 def lay_out(top):
     shutil.copytree(TOP / "dev", top / "dev")
-    (top / "tools").mkdir()
+    (top / "tools/mqroute_tools").mkdir(parents=True)
+    (top / "tools/mqroute_tools/__init__.py").touch()
+    shutil.copytree(TOP / "tools/mqroute_tools/common", top / "tools/mqroute_tools/common")
     (top / "tools/who_hears.py").write_text(TOOL)
     (top / "tools/who_hears.py").chmod(0o755)
     (top / "crates.txt").write_text(CRATES)
@@ -81,6 +84,11 @@ def check(top):
     assert [line.split(" after ")[0] for line in out.splitlines()[:3]] == [
         " 1 of 3  words           ", " 2 of 3  mqroute         ", " 3 of 3  mqroute_acl     "], out
     assert (top / "bin/mqroute-acl").read_text() == "mqroute_acl\n"
+    # which build they are, by their checksums
+    assert (top / "bin/PROGRAMS").read_text() == "".join(
+        f"{hashlib.sha256((top / 'bin' / name).read_bytes()).hexdigest()}  {name}  "
+        "unknown, proved by rattle-kit-0\n" for name in ("mqroute", "mqroute-acl")
+    ), (top / "bin/PROGRAMS").read_text()
     # a tool has its own name, and isn't a link, at which the toolchain would stop
     tool = top / "bin/mqroute-who-hears"
     assert not tool.is_symlink()
