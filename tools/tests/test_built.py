@@ -69,8 +69,9 @@ class Built(unittest.TestCase):
                            "20261201.1234567, proved by a kit"),)])
 
     def test_as_a_module(self) -> None:
-        """Of a program that nothing is known of nothing is written."""
-        done = subprocess.run([sys.executable, "-m", "mqroute_tools.common.built", self.other],
+        """Of a file whose name none of the clone's programs has nothing is written."""
+        other = self.known.rename(self.bin / "other")
+        done = subprocess.run([sys.executable, "-m", "mqroute_tools.common.built", other],
                               cwd=HERE, capture_output=True, text=True)
         self.assertEqual((done.returncode, done.stdout, done.stderr), (0, "", ""))
 
