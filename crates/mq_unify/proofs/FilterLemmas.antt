@@ -55,7 +55,7 @@ some_made : (pattern : Bool) (client user w : List ℕ) → 0 < length (made pat
 some_made false client user w = omega arith
 some_made true client user w = levels-nonempty (filled client user w)
 
-none_left : (pattern : Bool) (client user : List ℕ) (ws : List (List ℕ))
+pub none_left : (pattern : Bool) (client user : List ℕ) (ws : List (List ℕ))
     → (length (made_levels pattern client user ws) == 0) ≡ (length ws == 0)
 none_left pattern client user [] = refl
 none_left pattern client user (w ∷ ws) =

@@ -1,9 +1,10 @@
 -- Levels that are joined, and taken apart.
-use Rattle.std.proofs.Common.{◌≡◌, ◌+◌, ◌<◌, ℕ, zero, suc, true, false, not, List, [], ◌∷◌, ◌++◌}
+use Rattle.std.proofs.Common.{◌≡◌, ◌+◌, ◌<◌, ◌&&◌, ℕ, Bool, zero, suc, true, false, not, List, [], ◌∷◌, ◌++◌}
 use Rattle.std.proofs.Common.{length, refl, ap, sym, ◌∙◌, arith, append_assoc}
-use Rattle.std.specs.List.{flat_map}
-use Rattle.std.proofs.lemmas.Bool.{and_parts, not-true, or_parts}
+use Rattle.std.specs.List.{flat_map, list_all}
+use Rattle.std.proofs.lemmas.Bool.{and_from, and_parts, not-true, or_parts}
 use Rattle.std.proofs.lemmas.List.{append-nil}
+use Rattle.std.proofs.lemmas.List.Folds.{list_all-append}
 use Rattle.std.proofs.lemmas.Grind.{flat_map-append}
 use Rattle.mq_topic.specs.Levels.{levels}
 use Rattle.mq_topic.specs.Texts.{contains_byte}
@@ -21,6 +22,17 @@ values-snoc values first (suc count) =
     ap (values_from values first) e ∙ ap (λ l. values first ∷ l)
     (values-snoc values (suc first) count
     ∙ ap (λ n. values_from values (suc first) count ++ values n ∷ []) f)
+
+-- one more that passes the test
+pub passed_more : (test : List ℕ → Bool) (values : ℕ → List ℕ) (first place : ℕ)
+    → list_all test (values_from values first place) ≡ true → test (values (first + place)) ≡ true
+    → list_all test (values_from values first (place + 1)) ≡ true
+passed_more test values first place all one =
+    ap (list_all test) (values-snoc values first place)
+    ∙ list_all-append test (values_from values first place) (values (first + place) ∷ [])
+    ∙ and_from (list_all test (values_from values first place))
+    (test (values (first + place)) && true) all
+    (and_from (test (values (first + place))) true one refl)
 
 join-snoc : (ls : List (List ℕ)) (l : List ℕ) → 0 < length ls
     → join_levels (ls ++ l ∷ []) ≡ join_levels ls ++ 47 ∷ l

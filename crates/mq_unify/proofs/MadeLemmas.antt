@@ -65,14 +65,14 @@ no_mark_here : (x a b : ℕ) (rest : List ℕ)
     → starts_with nat_eq (a ∷ b ∷ rest) (37 ∷ x ∷ []) ≡ false → (a == 37 && b == x) ≡ false
 no_mark_here x a b rest h = grind arith
 
-unmarked : (client user w : List ℕ) → occurs_in (codes "%c") w ≡ false
+pub unmarked : (client user w : List ℕ) → occurs_in (codes "%c") w ≡ false
     → occurs_in (codes "%u") w ≡ false → filled client user w ≡ w
 unmarked client user [] c u = refl
 unmarked client user (a ∷ []) c u = refl
 unmarked client user (a ∷ b ∷ rest) c u =
     grind (arith, unmarked client user (b ∷ rest), no_mark_here)
 
-none_in : (w : List ℕ) → is_pattern_level w ≡ true → bytes_eq w (codes "%c") ≡ false
+pub none_in : (w : List ℕ) → is_pattern_level w ≡ true → bytes_eq w (codes "%c") ≡ false
     → bytes_eq w (codes "%u") ≡ false
     → (occurs_in (codes "%c") w ≡ false) × (occurs_in (codes "%u") w ≡ false)
 none_in w p e f = grind arith

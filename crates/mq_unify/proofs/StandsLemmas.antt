@@ -1,6 +1,6 @@
 -- The most general client stands for each other.
 use Rattle.std.proofs.Common.{◌≡◌, inl, inr, ◌+◌, ◌<◌, ◌==◌, ℕ, zero, suc, Bool, true, false, not, ◌&&◌, ◌||◌}
-use Rattle.std.proofs.Common.{List, [], ◌∷◌, ◌++◌, map, Option, refl, ap, sym, ◌∙◌, subst, arith}
+use Rattle.std.proofs.Common.{List, [], ◌∷◌, ◌++◌, map, Option, Some, None, refl, ap, sym, ◌∙◌, subst, arith}
 use Rattle.std.specs.List.{list_all}
 use Rattle.std.specs.Option.{unwrap_or}
 use Rattle.std.specs.Int.Digits.{digits_of}
@@ -13,14 +13,15 @@ use Rattle.mq_cover.specs.Names.{can_be_level}
 use Rattle.mq_cover.specs.Remainders.{fits}
 use Rattle.mq_unify.specs.Bindings.{Holds, IsNormal, bindings_fit, bound, general_text, level_fits}
 use Rattle.mq_unify.specs.Bindings.{text_of}
-use Rattle.mq_unify.specs.Clients.{HasShape, HasUser, user_fits, values_from}
+use Rattle.mq_unify.specs.Clients.{HasShape, HasUser, user_fits, user_passes, user_values_fit}
+use Rattle.mq_unify.specs.Clients.{values_from}
 use Rattle.mq_unify.specs.General.{AreAlike, IsMostGeneral, IsSound, StandsFor, is_sound}
 use Rattle.mq_unify.specs.Joined.{HasLevels, IsUserOf, join_levels, user_made}
 use Rattle.mq_unify.specs.Rows.{AllMade, all_matched, row_matches, rows_fit}
 use Rattle.mq_unify.specs.Terms.{Shape, agree_all, agree_with, all_agree, all_fit, goes_by, matched}
 use Rattle.mq_unify.specs.Terms.{may_follow, shape_of, term_fits, terms_fit}
 use Rattle.mq_unify.specs.Unifying.{IsUnified}
-use Rattle.mq_unify.specs.Unlike.{fresh_text, is_unlike}
+use Rattle.mq_unify.specs.Unlike.{FreshPass, fresh_text, is_unlike}
 use Rattle.mq_unify.specs.declared.binding.Binding.{Binding}
 use Rattle.mq_unify.specs.declared.binding.Level.{Level}
 use Rattle.mq_unify.specs.declared.binding.Level.TheVariants.{Free, Known}
@@ -161,7 +162,7 @@ level_lacking l p h n s =
     (ap not n)) (ap not s)
 
 -- a text that no row names can be a level
-fresh_level : (prefix : List ℕ) (n : ℕ) → can_be_level prefix ≡ true
+pub fresh_level : (prefix : List ℕ) (n : ℕ) → can_be_level prefix ≡ true
     → can_be_level (fresh_text prefix n) ≡ true
 fresh_level prefix n h =
     let parts = plain_parts prefix h in
@@ -327,22 +328,42 @@ module _ (shape : ClientShape) (must : List AclRow) (terms : List Terms)
               (is_everyones row.who) client other user other_user (levels row.filter) topic ls mg mo
               (levels_lack row.filter) fit for k;
           alike = alike_of prefix (general_text prefix bs) others topic ls for;
+          known = λ i u. is.known i (general_text prefix bs i) u refl;
           pass = λ test o v r u. general_passes test (general_text prefix bs) prefix o v
               (shapes_of terms) ls
               (list_all-map shape_of (λ s. terms_fit test s.fixed) terms ∙ are.unlike test r u);
         }
 
+    user_passing : (test : List ℕ → Bool) (values : ℕ → List ℕ) (first : ℕ) (of : UserShape)
+        (user : Option (List ℕ)) → HasUser values first of user
+        → user_values_fit test of values first ≡ true → user_passes test user ≡ true
+    user_passing test values first Absent user has h = ap (user_passes test) has
+    user_passing test values first (Named name) user has h = ap (user_passes test) has ∙ h
+    user_passing test values first (Levels count) None has h = absurd has
+    user_passing test values first (Levels count) (Some user) has h = ap (list_all test) has ∙ h
+
     pub is_most_general : (client : List ℕ) (user : Option (List ℕ))
         → (0 < shape.levels
         → client ≡ join_levels (values_from (general_text prefix bs) 0 shape.levels))
         → (HasLevels shape.user → IsUserOf shape (general_text prefix bs) user)
+        → ((test : List ℕ → Bool) → FreshPass prefix test → bindings_fit test bs ≡ true
+        → list_all test (values_from (general_text prefix bs) 0 shape.levels) ≡ true)
+        → ((test : List ℕ → Bool) → FreshPass prefix test → bindings_fit test bs ≡ true
+        → user_fits test shape.user ≡ true
+        → user_values_fit test shape.user (general_text prefix bs) shape.levels ≡ true)
         → IsMostGeneral prefix shape must client user
-    is_most_general client user e f =
+    is_most_general client user e f client_pass user_pass =
         let fit = bound_sound (is_sound prefix) sound.rows_sound sound.user_sound in
+        let shaped = has_shape prefix bs sound.prefix_is fit shape client user sound.client_some
+        sound.user_some (e sound.client_some) (f sound.user_some) in
         record {
           values = general_text prefix bs;
-          shaped = has_shape prefix bs sound.prefix_is fit shape client user sound.client_some
-              sound.user_some (e sound.client_some) (f sound.user_some);
+          shaped = shaped;
+          pass = λ test fresh r u. (
+            ap (list_all test) shaped.client_is ∙ client_pass test fresh (bound_sound test r u),
+            user_passing test (general_text prefix bs) shape.levels shape.user user shaped.user_is
+                (user_pass test fresh (bound_sound test r u) u),
+          );
           are_levels = general_level prefix bs sound.prefix_is fit;
           stands = stands client user;
         }

@@ -64,6 +64,17 @@ abbrev pub user_fits : (List ℕ → Bool) → UserShape → Bool
 user_fits test (Known name) = list_all test (levels name.now)
 user_fits test shape = true
 
+-- the levels of the user name pass the test, where these are the values of those that are looked for
+abbrev pub user_values_fit : (List ℕ → Bool) → UserShape → (ℕ → List ℕ) → ℕ → Bool
+user_values_fit test Absent values first = true
+user_values_fit test (Known name) values first = list_all test (levels name.now)
+user_values_fit test (Levels count) values first = list_all test (values_from values first count)
+
+-- the levels of the user name pass the test, if there is one
+abbrev pub user_passes : (List ℕ → Bool) → Option (List ℕ) → Bool
+user_passes test None = true
+user_passes test (Some user) = list_all test (levels user)
+
 -- none of them is a wildcard
 abbrev pub are_plain : List (List ℕ) → Bool
 are_plain ls = list_all (λ l. not (is_wildcard l)) ls

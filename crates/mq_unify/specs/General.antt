@@ -7,10 +7,10 @@ use Rattle.mq_acl.specs.Rows.{AclRow}
 use Rattle.mq_acl.specs.RowsByOwner.{is_everyones}
 use Rattle.mq_cover.specs.Names.{can_be_level}
 use Rattle.mq_cover.specs.Remainders.{fits}
-use Rattle.mq_unify.specs.Clients.{HasShape, IsMade, user_fits}
+use Rattle.mq_unify.specs.Clients.{HasShape, IsMade, user_fits, user_passes}
 use Rattle.mq_unify.specs.Joined.{HasLevels}
 use Rattle.mq_unify.specs.Rows.{AllMade, row_matches, rows_fit}
-use Rattle.mq_unify.specs.Unlike.{is_unlike}
+use Rattle.mq_unify.specs.Unlike.{FreshPass, is_unlike}
 use Rattle.mq_unify.specs.declared.shape.ClientShape.{ClientShape}
 
 -- a level that is named by a row: it can be one of a name, and doesn't begin with the prefix
@@ -49,6 +49,8 @@ pub record StandsFor (prefix : List ℕ) (shape : ClientShape) (must : List AclR
       → row_matches client user topic row ≡ true → row_matches other other_user ls row ≡ true
   -- it has as many levels, and begins as that does
   pub alike : AreAlike prefix topic ls
+  -- each level of the client that doesn't begin with the prefix is that of the other
+  pub known : (i : ℕ) → is_unlike prefix (values i) ≡ true → others i ≡ values i
   -- a test that the levels of the client, those of the rows and the prefix pass is passed by its levels
   pub pass : (test : List ℕ → Bool) → test prefix ≡ true → ((i : ℕ) → test (values i) ≡ true)
       → rows_fit test must ≡ true → user_fits test shape.user ≡ true → list_all test topic ≡ true
@@ -59,6 +61,10 @@ pub record IsMostGeneral (prefix : List ℕ) (shape : ClientShape) (must : List 
   pub values : ℕ → List ℕ
   pub shaped : HasShape shape values client user
   pub are_levels : (i : ℕ) → can_be_level (values i) ≡ true
+  -- a test that the levels of the rows pass, and those that no row names, is passed by its levels
+  pub pass : (test : List ℕ → Bool) → FreshPass prefix test → rows_fit test must ≡ true
+      → user_fits test shape.user ≡ true
+      → (list_all test (levels client) ≡ true) × (user_passes test user ≡ true)
   pub stands : (others : ℕ → List ℕ) (other : List ℕ) (other_user : Option (List ℕ))
       (ls : List (List ℕ)) → AllMade shape others other other_user must
       → AllMade shape values client user must

@@ -1,11 +1,12 @@
 //! The texts of the most general client.
-ghost use Rattle.std.specs.Prelude.{◌≡◌, ◌<◌, ◌++◌, ℕ, List, Option, IfOk, IfNone, IfSome, false, string_bytes};
-ghost use Rattle.mq_unify.specs.Bindings.{general_text, text_of};
-ghost use Rattle.mq_unify.specs.Clients.{values_from};
+ghost use Rattle.std.specs.Prelude.{◌≡◌, ◌<◌, ◌++◌, ℕ, Bool, List, Option, IfOk, IfNone, IfSome, false, string_bytes};
+ghost use Rattle.std.specs.Prelude.{true};
+ghost use Rattle.mq_unify.specs.Bindings.{bindings_fit, general_text, level_fits, text_of};
+ghost use Rattle.mq_unify.specs.Clients.{user_fits, user_values_fit, values_from};
 ghost use Rattle.mq_unify.specs.Joined.{HasLevels, IsUserOf, join_levels, user_view};
 ghost use Rattle.mq_unify.specs.General.{IsMostGeneral, IsSound};
 ghost use Rattle.mq_unify.specs.Rows.{AllMade, lent_rows, row_matches};
-ghost use Rattle.mq_unify.specs.Unlike.{fresh_text};
+ghost use Rattle.mq_unify.specs.Unlike.{FreshPass, fresh_text};
 ghost use Rattle.std.specs.List.{list_all};
 
 use crate::binding::{Bindings, Level};
@@ -25,8 +26,11 @@ fn fresh_text(alloc: Global, prefix: &str, number: u16) -> Result<String, AllocE
 
 // The text of a level.
 fn level_text(alloc: Global, prefix: &str, level: Level) -> Result<String, AllocError>
-    ensures { IfOk result (λ text. string_bytes text
+    ensures text { IfOk result (λ text. string_bytes text
         ≡ text_of (fresh_text prefix.now) level.entry) }
+    ensures passes { (test : List ℕ → Bool) → FreshPass prefix.now test
+        → level_fits test level.entry ≡ true
+        → test (text_of (fresh_text prefix.now) level.entry) ≡ true }
 {
     match level {
         Level::Free(number) => fresh_text(alloc, prefix, number),
@@ -41,8 +45,11 @@ fn number_text(
     bindings: &Bindings,
     number: u16,
 ) -> Result<String, AllocError>
-    ensures { IfOk result (λ text. string_bytes text
+    ensures text { IfOk result (λ text. string_bytes text
         ≡ general_text prefix.now bindings.now.bindings.items number) }
+    ensures passes { (test : List ℕ → Bool) → FreshPass prefix.now test
+        → bindings_fit test bindings.now.bindings.items ≡ true
+        → test (general_text prefix.now bindings.now.bindings.items number) ≡ true }
 {
     let level = bindings.level(Level::Free(number));
     level_text(alloc, prefix, level)
@@ -56,8 +63,11 @@ fn joined(
     first: u8,
     count: u8,
 ) -> Result<String, AllocError>
-    ensures { IfOk result (λ text. 0 < count → string_bytes text ≡ join_levels
+    ensures text { IfOk result (λ text. 0 < count → string_bytes text ≡ join_levels
         (values_from (general_text prefix.now bindings.now.bindings.items) first count)) }
+    ensures passes { IfOk result (λ _. (test : List ℕ → Bool) → FreshPass prefix.now test
+        → bindings_fit test bindings.now.bindings.items ≡ true → list_all test
+        (values_from (general_text prefix.now bindings.now.bindings.items) first count) ≡ true) }
 {
     let mut text = number_text(alloc, prefix, bindings, u16::from(first))?;
     for place in 1..count {
@@ -85,9 +95,13 @@ fn user_text(
     bindings: &Bindings,
     shape: ClientShape,
 ) -> Result<Option<String>, AllocError>
-    ensures { IfOk result (λ user. HasLevels shape.entry.user
+    ensures text { IfOk result (λ user. HasLevels shape.entry.user
         → IsUserOf shape.entry (general_text prefix.now bindings.now.bindings.items)
         (user_view user)) }
+    ensures passes { IfOk result (λ _. (test : List ℕ → Bool) → FreshPass prefix.now test
+        → bindings_fit test bindings.now.bindings.items ≡ true
+        → user_fits test shape.entry.user ≡ true → user_values_fit test shape.entry.user
+        (general_text prefix.now bindings.now.bindings.items) shape.entry.levels ≡ true) }
 {
     match shape.user {
         UserShape::Absent => Ok(None),

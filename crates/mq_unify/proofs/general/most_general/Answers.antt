@@ -20,4 +20,5 @@ returns-clause-some c = λ sound.
     c.new-bindings.result.bindings.items c.new-bindings.ensures c.args.prefix.now
     c.unify_all.new.bindings.bindings.items c.unify_all.new.bindings.normal
     (c.in_ok-unify_all.ensures.same c.if-not-branch.false) sound _ _
-    c.in_ok-client.ensures c.in_ok-user.ensures
+    c.in_ok-client.ensures.text c.in_ok-user.ensures.text c.in_ok-client.ensures.passes
+    c.in_ok-user.ensures.passes
