@@ -1,5 +1,6 @@
 //! Users whom lines name, and about whom nothing is asked, in words and as JSON.
 ghost use Rattle.std.specs.Prelude.{◌≡◌, ◌++◌, OnOk, string_bytes};
+ghost use Rattle.mq_ask.specs.Notes.{not_asked_lines};
 ghost use Rattle.mq_ask.specs.Objects.{not_asked_texts};
 ghost use Rattle.mq_print.specs.Lists.{lent_texts};
 
@@ -11,7 +12,10 @@ pub const NOT_ASKED: &str =
     "by mosquitto's rules nothing is asked about a user whose name holds /, + or #";
 
 /// Adds a line for each of them, and why.
-pub fn add_not_asked(text: &mut String, users: &[&str]) -> Result<(), AllocError> {
+pub fn add_not_asked(text: &mut String, users: &[&str]) -> Result<(), AllocError>
+    ensures { OnOk result (string_bytes text.new
+        ≡ string_bytes text.old ++ not_asked_lines (lent_texts users.now)) }
+{
     for user in users {
         writeln!(text, "user {user}: not asked")?;
     }

@@ -1,6 +1,6 @@
 //! Words for what is asked about, in texts and in JSON.
 ghost use Rattle.std.specs.Prelude.{◌≡◌, Some};
-ghost use Rattle.mq_ask.specs.Words.{access_named, access_text};
+ghost use Rattle.mq_ask.specs.Words.{access_named, access_text, owner_words};
 
 use mq_acl::{Direction, Rules};
 
@@ -27,7 +27,9 @@ pub fn access_named(word: &str) -> Option<Direction>
 }
 
 /// Whose the rules are.
-pub fn rules_owner(rules: Rules) -> &'static str {
+pub fn rules_owner(rules: Rules) -> &'static str
+    ensures { result.now ≡ owner_words rules }
+{
     match rules {
         Rules::Own => "mqroute's own",
         Rules::Mosquitto => "mosquitto's",

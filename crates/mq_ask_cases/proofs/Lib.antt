@@ -1,1 +1,5 @@
 pub mod WayLemmas
+pub mod RowLemmas
+pub mod PartLemmas
+pub mod ClientLemmas
+pub mod PlaceholderLemmas

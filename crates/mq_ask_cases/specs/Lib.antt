@@ -1,1 +1,5 @@
 pub mod Ways
+pub mod Deciding
+pub mod ChangeRows
+pub mod Placeholders
+pub mod Clients

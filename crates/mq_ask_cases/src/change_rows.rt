@@ -1,4 +1,13 @@
 //! A table of what changes, in words.
+ghost use Rattle.std.specs.Prelude.{◌≡◌, ◌++◌, IfOk, OnOk, map, max, string_bytes};
+ghost use Rattle.std.specs.List.{flat_map, list_all};
+ghost use Rattle.mq_ask_cases.specs.ChangeRows.{access_cell, access_width, access_words};
+ghost use Rattle.mq_ask_cases.specs.ChangeRows.{change_view, example_words, line_below};
+ghost use Rattle.mq_ask_cases.specs.ChangeRows.{place_width, places_of, publishes_line, row_text};
+ghost use Rattle.mq_ask_cases.specs.ChangeRows.{script_of, side_line, table_text, topic_words};
+ghost use Rattle.mq_ask_cases.specs.ChangeRows.{widest, access_of};
+ghost use Rattle.mq_ask_cases.specs.Deciding.{may_have_several, side_view};
+
 use crate::clients::add_who;
 use crate::deciding::Side;
 use mq_acl::Direction;
@@ -42,7 +51,9 @@ struct Widths {
     place: usize,
 }
 
-fn access_words(direction: Direction, way: Way) -> &'static str {
+fn access_words(direction: Direction, way: Way) -> &'static str
+    ensures { result.now ≡ access_words direction way }
+{
     match (direction, way) {
         (Direction::Reading, Way::Gained) => "may now read",
         (Direction::Writing, Way::Gained) => "may now write",
@@ -51,21 +62,46 @@ fn access_words(direction: Direction, way: Way) -> &'static str {
     }
 }
 
-fn widths_of(rows: &[ChangeRow<'_>]) -> Widths {
-    let mut widths = Widths {
-        access: 0,
-        place: 0,
-    };
+fn access_width(rows: &[ChangeRow<'_>]) -> usize
+    ensures { result ≡ access_width (map change_view rows.now) }
+{
+    let mut width = 0;
     for row in rows {
-        widths.access = widened(widths.access, access_words(row.direction, row.way));
-        for side in &row.sides {
-            widths.place = widened(widths.place, side.place.as_str());
-        }
-        if let Some((file, _)) = &row.publishes {
-            widths.place = widened(widths.place, *file);
-        }
+        width = widened(width, access_words(row.direction, row.way));
     }
-    widths
+    width
+}
+
+// The greater of a width and those of the places of these.
+fn widened_by_sides(width: usize, sides: &[Side<'_>]) -> usize
+    ensures { result ≡ max width (widest (map (λ side. side.place) (map side_view sides.now))) }
+{
+    let mut width = width;
+    for side in sides {
+        width = widened(width, side.place.as_str());
+    }
+    width
+}
+
+// The greater of a width and those of the places of the row.
+fn widened_by_row(width: usize, row: &ChangeRow<'_>) -> usize
+    ensures { result ≡ max width (widest (places_of (change_view row.now))) }
+{
+    let width = widened_by_sides(width, &row.sides);
+    match &row.publishes {
+        Some((file, _)) => widened(width, *file),
+        None => width,
+    }
+}
+
+fn place_width(rows: &[ChangeRow<'_>]) -> usize
+    ensures { result ≡ place_width (map change_view rows.now) }
+{
+    let mut width = 0;
+    for row in rows {
+        width = widened_by_row(width, row);
+    }
+    width
 }
 
 const GREEN: &str = "\u{1b}[32m";
@@ -80,7 +116,10 @@ fn add_access(
     row: &ChangeRow<'_>,
     width: usize,
     coloured: bool,
-) -> Result<(), AllocError> {
+) -> Result<(), AllocError>
+    ensures { OnOk result (string_bytes text.new
+        ≡ string_bytes text.old ++ access_cell coloured width (change_view row.now)) }
+{
     let access = access_words(row.direction, row.way);
     if !coloured {
         return add_cell(text, access, width);
@@ -90,25 +129,62 @@ fn add_access(
     text.push_str(PLAIN)
 }
 
-fn add_below(text: &mut String, place: &str, words: &str, width: usize) -> Result<(), AllocError> {
+fn add_below(text: &mut String, place: &str, words: &str, width: usize) -> Result<(), AllocError>
+    ensures { OnOk result (string_bytes text.new
+        ≡ string_bytes text.old ++ line_below width place.now words.now) }
+{
     text.push_str("    ")?;
     add_cell(text, place, width)?;
     text.push_str(words)?;
     text.push('\n')
 }
 
+fn add_sides(text: &mut String, sides: &[Side<'_>], width: usize) -> Result<(), AllocError>
+    ensures { OnOk result (string_bytes text.new
+        ≡ string_bytes text.old ++ flat_map (side_line width) (map side_view sides.now)) }
+{
+    for side in sides {
+        add_below(text, side.place.as_str(), side.words, width)?;
+    }
+    Ok(())
+}
+
+fn add_publishes(text: &mut String, row: &ChangeRow<'_>, width: usize) -> Result<(), AllocError>
+    ensures { OnOk result (string_bytes text.new
+        ≡ string_bytes text.old ++ publishes_line width (change_view row.now).publishes) }
+{
+    match &row.publishes {
+        Some((file, words)) => add_below(text, *file, words.as_str(), width),
+        None => Ok(()),
+    }
+}
+
+fn may_have_several(sides: &[Side<'_>]) -> bool
+    ensures { result ≡ list_all (λ side. may_have_several (side_view side)) sides.now }
+{
+    sides.iter().all(|side| side.may_have_several())
+}
+
+// That the topic is one of several, if nothing decides about it alone.
+fn example_words(sides: &[Side<'_>]) -> &'static str
+    ensures { result.now ≡ example_words (map side_view sides.now) }
+{
+    if may_have_several(sides) {
+        "for example "
+    } else {
+        ""
+    }
+}
+
 // What stands behind the access: the topic, and below it what decides, and the publishes.
-fn topic_words(alloc: Global, row: &ChangeRow<'_>, widths: Widths) -> Result<String, AllocError> {
-    let is_example = row.sides.iter().all(|side| side.may_have_several());
-    let topic = row.topic.as_str();
-    let mut text = String::from_str(alloc, if is_example { "for example " } else { "" })?;
-    writeln!(text, "{topic}")?;
-    for side in &row.sides {
-        add_below(&mut text, side.place.as_str(), side.words, widths.place)?;
-    }
-    if let Some((file, words)) = &row.publishes {
-        add_below(&mut text, *file, words.as_str(), widths.place)?;
-    }
+fn topic_words(alloc: Global, row: &ChangeRow<'_>, width: usize) -> Result<String, AllocError>
+    ensures { IfOk result (λ text. string_bytes text ≡ topic_words width (change_view row.now)) }
+{
+    let mut text = String::from_str(alloc, example_words(&row.sides))?;
+    text.push_str(row.topic.as_str())?;
+    text.push('\n')?;
+    add_sides(&mut text, &row.sides, width)?;
+    add_publishes(&mut text, row, width)?;
     Ok(text)
 }
 
@@ -119,10 +195,13 @@ fn add_row(
     row: &ChangeRow<'_>,
     widths: Widths,
     coloured: bool,
-) -> Result<(), AllocError> {
+) -> Result<(), AllocError>
+    ensures { OnOk result (string_bytes text.new ≡ string_bytes text.old
+        ++ row_text coloured widths.access widths.place (change_view row.now)) }
+{
     text.push_str("  ")?;
     add_access(text, row, widths.access, coloured)?;
-    let words = topic_words(alloc, row, widths)?;
+    let words = topic_words(alloc, row, widths.place)?;
     let shown = shown_lines(alloc, words.as_str(), Escape::Words)?;
     text.push_str(shown.as_str())
 }
@@ -133,8 +212,14 @@ pub fn change_table(
     alloc: Global,
     rows: &[ChangeRow<'_>],
     coloured: bool,
-) -> Result<String, AllocError> {
-    let widths = widths_of(rows);
+) -> Result<String, AllocError>
+    ensures { IfOk result (λ text. string_bytes text
+        ≡ table_text coloured (map change_view rows.now)) }
+{
+    let widths = Widths {
+        access: access_width(rows),
+        place: place_width(rows),
+    };
     let mut text = String::new(alloc);
     let mut who = "";
     for row in rows {

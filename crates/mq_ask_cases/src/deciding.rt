@@ -1,4 +1,9 @@
 //! What decides, as it stands in a list.
+ghost use Rattle.std.specs.Prelude.{◌≡◌, IfOk};
+ghost use Rattle.mq_ask_cases.specs.Deciding.{decision, has_wildcard, may_have_several, side_view};
+ghost use Rattle.mq_ask_cases.specs.Deciding.{undecided_words};
+ghost use Rattle.mq_print.specs.Lists.{lines_view};
+
 use mq_differences::Reason;
 use mq_print::Lines;
 use std::alloc::{AllocError, Global};
@@ -25,19 +30,25 @@ impl Drop for Side<'_> {
 }
 
 /// Whether there is a wildcard in a filter, or in the line that it stands in: it may match several topics.
-pub fn has_wildcard(filter: &str) -> bool {
-    filter.contains('+') || filter.contains('#')
+pub fn has_wildcard(filter: &str) -> bool
+    ensures { result ≡ has_wildcard filter.now }
+{
+    filter.as_bytes().iter().any(|b| *b == b'+' || *b == b'#')
 }
 
 impl Side<'_> {
     // Whether it decides about several topics, or is no line.
-    pub fn may_have_several(&self) -> bool {
+    pub fn may_have_several(&self) -> bool
+        ensures { result ≡ may_have_several (side_view self.now) }
+    {
         !self.is_line || has_wildcard(self.words)
     }
 }
 
 // That no line decides, in words.
-fn undecided_words(reason: Reason) -> &'static str {
+fn undecided_words(reason: Reason) -> &'static str
+    ensures { result.now ≡ undecided_words reason }
+{
     match reason {
         Reason::Broker => "mosquitto refuses it, whatever the list says",
         _ => "no line allows it",
@@ -49,7 +60,9 @@ pub fn decision<'a>(
     alloc: Global,
     lines: Lines<'a, 'a, 'a>,
     reason: Reason,
-) -> Result<Side<'a>, AllocError> {
+) -> Result<Side<'a>, AllocError>
+    ensures { IfOk result (λ side. side_view side ≡ decision (lines_view lines.entry) reason) }
+{
     let file = lines.file;
     match reason.line() {
         Some(line) => Ok(Side {

@@ -1,6 +1,6 @@
 //! What is gained and what is lost, and which of it is asked about.
 ghost use Rattle.std.specs.Prelude.{◌≡◌};
-ghost use Rattle.mq_ask_cases.specs.Ways.{is_way, way_text};
+ghost use Rattle.mq_ask_cases.specs.Ways.{is_way, rows_word, way_text};
 
 use mq_differences::Way;
 
@@ -27,7 +27,9 @@ pub fn way_word(way: Way) -> &'static str
 }
 
 /// What so many rows of a comparison are, where of one way alone or of both is asked.
-pub fn rows_word(count: usize, only: Option<Way>) -> &'static str {
+pub fn rows_word(count: usize, only: Option<Way>) -> &'static str
+    ensures { result.now ≡ rows_word count only }
+{
     match only {
         None if count == 1 => "difference",
         None => "differences",

@@ -1,7 +1,6 @@
 -- The text of differences.
 use Rattle.std.proofs.Common.{◌≡◌, ◌++◌, ◌∙◌, ℕ, Bool, true, false, List, [], refl, sym, ap}
 use Rattle.std.proofs.Common.{append-nil, if◌then◌else◌}
-use Rattle.mq_ask.specs.Objects.{limit_text}
 use Rattle.mq_ask_compare.specs.Changed.{changes_text}
 use Rattle.mq_differences.specs.declared.difference.Difference.{Difference}
 use Rattle.mq_print.specs.Lists.{ListView}
@@ -15,10 +14,10 @@ pub changes_same : (old new : ListView) (old_lines new_lines : List (List ℕ))
 changes_same old new old_lines new_lines ds es users olds news same = rw (olds, news, same) refl
 
 -- behind the text stands for which clients it is, where others are left out
-pub with_limit : (limited : Bool) (before after shown : List ℕ) → before ≡ shown
-    → (limited ≡ false → after ≡ before) → (limited ≡ true → after ≡ before ++ limit_text)
-    → after ≡ shown ++ (if limited then limit_text else [])
-with_limit true before after shown is whole object =
-    object refl ∙ ap (λ t. t ++ limit_text) is
-with_limit false before after shown is whole object =
+pub with_limit : (limit : List ℕ) (limited : Bool) (before after shown : List ℕ) → before ≡ shown
+    → (limited ≡ false → after ≡ before) → (limited ≡ true → after ≡ before ++ limit)
+    → after ≡ shown ++ (if limited then limit else [])
+with_limit limit true before after shown is whole added =
+    added refl ∙ ap (λ (t : List ℕ). t ++ limit) is
+with_limit limit false before after shown is whole added =
     whole refl ∙ is ∙ sym (append-nil shown)

@@ -1,7 +1,14 @@
 //! Where two lists differ, in words and as JSON.
 ghost use Rattle.std.specs.List.{flat_map};
-ghost use Rattle.std.specs.Prelude.{◌≡◌, ◌++◌, IfOk, None, OnOk, string_bytes, true};
+ghost use Rattle.std.specs.Prelude.{◌≡◌, ◌++◌, IfOk, None, OnOk, false, map, string_bytes, true};
+ghost use Rattle.std.specs.Option.{option_map};
+ghost use Rattle.mq_ask_cases.specs.ChangeRows.{change_view, publishes_view};
 ghost use Rattle.mq_ask_compare.specs.Changed.{change_text, changes_text};
+ghost use Rattle.mq_ask_compare.specs.Worded.{AreRowsOf, IsRow, IsWorded, SaysSame, SaysUsers};
+ghost use Rattle.mq_ask_compare.specs.Worded.{ShowsGroups, count_line, every_word, extent_words};
+ghost use Rattle.mq_ask_compare.specs.Worded.{nothing_words, rules_words};
+ghost use Rattle.mq_ask_compare.specs.Worded.{same_line, same_words};
+ghost use Rattle.mq_ask_compare.specs.Worded.{scope_view, script_file, which_words};
 ghost use Rattle.mq_print.specs.Lists.{lent_texts, lines_view, list_view};
 
 use mq_acl::{Row, Rules};
@@ -59,7 +66,10 @@ fn publishes_of<'a>(
     alloc: Global,
     scope: Scope<'a>,
     difference: &Difference,
-) -> Result<Option<(&'a str, String)>, AllocError> {
+) -> Result<Option<(&'a str, String)>, AllocError>
+    ensures { IfOk result (λ publishes. option_map (λ of. of.0) (publishes_view publishes)
+        ≡ script_file scope.entry.traffic) }
+{
     let Some(traffic) = scope.traffic else {
         return Ok(None);
     };
@@ -74,7 +84,10 @@ fn change_row<'a>(
     old: Lines<'a, 'a, 'a>,
     new: Lines<'a, 'a, 'a>,
     group: &'a Group,
-) -> Result<ChangeRow<'a>, AllocError> {
+) -> Result<ChangeRow<'a>, AllocError>
+    ensures { IfOk result (λ row. IsRow (script_file scope.entry.traffic) (lines_view old.entry)
+        (lines_view new.entry) group.entry.now (change_view row)) }
+{
     let difference = &group.first;
     let old = decision(alloc, old, difference.old_reason)?;
     let new = decision(alloc, new, difference.new_reason)?;
@@ -137,62 +150,144 @@ fn json_lines(
     Ok(text)
 }
 
+fn change_rows<'a>(
+    alloc: Global,
+    scope: Scope<'a>,
+    old: Lines<'a, 'a, 'a>,
+    new: Lines<'a, 'a, 'a>,
+    groups: &'a [Group],
+) -> Result<Vec<ChangeRow<'a>>, AllocError>
+    ensures { IfOk result (λ rows. AreRowsOf (script_file scope.entry.traffic)
+        (lines_view old.entry) (lines_view new.entry) groups.entry.now
+        (map change_view rows.items)) }
+{
+    let mut rows = Vec::new(alloc);
+    for group in groups {
+        rows.push(change_row(alloc, scope, old, new, group)?)?;
+    }
+    Ok(rows)
+}
+
+// By whose rules, where they aren't mqroute's own.
+fn rules_words(rules: Rules) -> &'static str
+    ensures { result.now ≡ rules_words rules }
+{
+    match rules {
+        Rules::Own => "",
+        Rules::Mosquitto => " by mosquitto's rules",
+    }
+}
+
+// Adds how many rows there are.
+fn add_count(text: &mut String, scope: Scope<'_>, count: usize) -> Result<(), AllocError>
+    ensures { OnOk result (string_bytes text.new
+        ≡ string_bytes text.old ++ count_line scope.entry.rules scope.entry.only count) }
+{
+    let what = rows_word(count, scope.only);
+    let whose = rules_words(scope.rules);
+    writeln!(text, "{count} {what}{whose}")
+}
+
 fn words<'a>(
     alloc: Global,
     scope: Scope<'a>,
     old: Lines<'a, 'a, 'a>,
     new: Lines<'a, 'a, 'a>,
     groups: &'a [Group],
-) -> Result<String, AllocError> {
-    let mut rows = Vec::new(alloc);
-    for group in groups {
-        rows.push(change_row(alloc, scope, old, new, group)?)?;
-    }
+) -> Result<String, AllocError>
+    ensures { IfOk result (λ text. ShowsGroups (scope_view scope.entry) (lines_view old.entry)
+        (lines_view new.entry) groups.entry.now (string_bytes text)) }
+{
+    let rows = change_rows(alloc, scope, old, new, groups)?;
     let mut text = change_table(alloc, &rows, scope.coloured)?;
-    let count = rows.len();
-    let what = rows_word(count, scope.only);
-    let whose = match scope.rules {
-        Rules::Own => "",
-        Rules::Mosquitto => " by mosquitto's rules",
-    };
-    writeln!(text, "{count} {what}{whose}")?;
+    add_count(&mut text, scope, rows.len())?;
     add_users(alloc, &mut text, scope)?;
     Ok(text)
 }
 
 // Adds the users about whom nothing is asked.
-fn add_users(alloc: Global, text: &mut String, scope: Scope<'_>) -> Result<(), AllocError> {
+fn add_users(alloc: Global, text: &mut String, scope: Scope<'_>) -> Result<(), AllocError>
+    ensures { OnOk result (SaysUsers (lent_texts scope.entry.not_asked.now)
+        (string_bytes text.old) (string_bytes text.new)) }
+{
     let mut users = String::new(alloc);
     add_not_asked(&mut users, scope.not_asked)?;
     let shown = shown_lines(alloc, users.as_str(), Escape::Words)?;
     text.push_str(shown.as_str())
 }
 
+// Adds that the one list allows nothing that the other doesn't.
+fn add_nothing(text: &mut String, one: &str, other: &str) -> Result<(), AllocError>
+    ensures { OnOk result (string_bytes text.new
+        ≡ string_bytes text.old ++ nothing_words one.now other.now) }
+{
+    write!(text, "{one} allows nothing that {other} doesn't")
+}
+
 // Adds that the lists allow the same, or that one of them allows nothing that the other doesn't.
-fn add_none(text: &mut String, only: Option<Way>, old: &str, new: &str) -> Result<(), AllocError> {
+fn add_none(text: &mut String, only: Option<Way>, old: &str, new: &str) -> Result<(), AllocError>
+    ensures { OnOk result (string_bytes text.new
+        ≡ string_bytes text.old ++ same_words only old.now new.now) }
+{
     match only {
         None => text.push_str("both lists allow the same"),
-        Some(Way::Gained) => write!(text, "{new} allows nothing that {old} doesn't"),
-        Some(Way::Lost) => write!(text, "{old} allows nothing that {new} doesn't"),
+        Some(Way::Gained) => add_nothing(text, new, old),
+        Some(Way::Lost) => add_nothing(text, old, new),
     }
 }
 
-// That the lists don't differ, or not in the way that is asked about.
-fn none_text(alloc: Global, scope: Scope<'_>, old: &str, new: &str) -> Result<String, AllocError> {
-    let whose = rules_owner(scope.rules);
-    let which = if scope.is_limited {
+fn every_word(only: Option<Way>) -> &'static str
+    ensures { result.now ≡ every_word only }
+{
+    match only {
+        None => "every",
+        Some(_) => "any",
+    }
+}
+
+fn which_words(is_limited: bool) -> &'static str
+    ensures { result.now ≡ which_words is_limited }
+{
+    if is_limited {
         " without /, + and # that"
     } else {
         ""
-    };
-    let every = if scope.only.is_none() { "every" } else { "any" };
-    let mut text = format!(in alloc; "by {whose} rules ")?;
-    add_none(&mut text, scope.only, old, new)?;
-    writeln!(
+    }
+}
+
+// Adds for which topics and clients.
+fn add_extent(text: &mut String, scope: Scope<'_>) -> Result<(), AllocError>
+    ensures { OnOk result (string_bytes text.new ≡ string_bytes text.old
+        ++ extent_words (every_word scope.entry.only) scope.entry.is_limited) }
+{
+    let every = every_word(scope.only);
+    let which = which_words(scope.is_limited);
+    write!(
         text,
         ", on {every} topic, to {every} client id and user name{which} a broker can have"
-    )?;
-    let mut text = shown_lines(alloc, text.as_str(), Escape::Words)?;
+    )
+}
+
+// That the lists don't differ, or not in the way that is asked about.
+fn none_line(alloc: Global, scope: Scope<'_>, old: &str, new: &str) -> Result<String, AllocError>
+    ensures { IfOk result (λ text. string_bytes text
+        ≡ same_line (scope_view scope.entry) old.now new.now) }
+{
+    let whose = rules_owner(scope.rules);
+    let mut text = format!(in alloc; "by {whose} rules ")?;
+    add_none(&mut text, scope.only, old, new)?;
+    add_extent(&mut text, scope)?;
+    text.push('\n')?;
+    Ok(text)
+}
+
+// And behind it the users about whom nothing is asked.
+fn none_text(alloc: Global, scope: Scope<'_>, old: &str, new: &str) -> Result<String, AllocError>
+    ensures { IfOk result (λ text. SaysSame (scope_view scope.entry) old.now new.now
+        (string_bytes text)) }
+{
+    let line = none_line(alloc, scope, old, new)?;
+    let mut text = shown_lines(alloc, line.as_str(), Escape::Words)?;
     add_users(alloc, &mut text, scope)?;
     Ok(text)
 }
@@ -206,9 +301,11 @@ pub fn changes_text(
     differences: Vec<Difference>,
     json: bool,
 ) -> Result<String, AllocError>
-    ensures { IfOk result (λ text. json ≡ true → scope.entry.traffic ≡ None → string_bytes text
-        ≡ changes_text (list_view old.entry) (list_view new.entry) differences.items
-        (lent_texts scope.entry.not_asked.now)) }
+    ensures objects { IfOk result (λ text. json ≡ true → scope.entry.traffic ≡ None
+        → string_bytes text ≡ changes_text (list_view old.entry) (list_view new.entry)
+        differences.items (lent_texts scope.entry.not_asked.now)) }
+    ensures words { IfOk result (λ text. json ≡ false → IsWorded (scope_view scope.entry)
+        (list_view old.entry) (list_view new.entry) differences.items (string_bytes text)) }
 {
     let old_lines = lines_of(alloc, old.text)?;
     let new_lines = lines_of(alloc, new.text)?;

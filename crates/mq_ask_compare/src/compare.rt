@@ -11,6 +11,7 @@ ghost use Rattle.mq_ask_cases.specs.Ways.{is_way};
 ghost use Rattle.mq_ask_compare.specs.Compare.{AreChanges, IsCompared, SaysWhetherSame};
 ghost use Rattle.mq_ask_compare.specs.Compare.{AreLimited, IsComparisonFailure, are_limited};
 ghost use Rattle.mq_ask_compare.specs.Changed.{AreObjects, AreShown};
+ghost use Rattle.mq_ask_compare.specs.Worded.{AreWorded, AreWords};
 ghost use Rattle.mq_print.specs.Lists.{list_view};
 ghost use Rattle.mq_differences.specs.Faults.{IsComparisonFault};
 ghost use Rattle.mq_who.specs.Unasked.{has_text, is_not_compared};
@@ -216,6 +217,9 @@ fn answer_text(
     ensures objects { IfOk result (λ text. options.json ≡ true → script.entry ≡ None
         → AreObjects options.rules only (list_view lists.entry.0) (list_view lists.entry.1) changes
         (string_bytes text)) }
+    ensures words { IfOk result (λ text. options.json ≡ false
+        → AreWords options.rules only script.entry options.coloured (list_view lists.entry.0)
+        (list_view lists.entry.1) changes (string_bytes text)) }
 {
     let (old, new, differences) = changes.into_parts();
     let not_asked = users_not_compared(alloc, options.rules, &old, &new)?;
@@ -261,6 +265,9 @@ pub fn show_changes<'a, W: Write>(
         → options.json ≡ false → SaysLimit (W.contents out.old) (W.contents out.new)) }
     ensures json { OnOk result (options.json ≡ true → script.entry ≡ None
         → AreShown options.rules only old.entry new.entry
+        (W.contents out.old) (W.contents out.new)) }
+    ensures words { OnOk result (options.json ≡ false
+        → AreWorded options.rules only script.entry options.coloured old.entry new.entry
         (W.contents out.old) (W.contents out.new)) }
     ensures quiet { OnOk result (options.rules ≡ Own → notes.new ≡ notes.old) }
 {

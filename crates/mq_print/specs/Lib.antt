@@ -1,3 +1,4 @@
 pub mod Lists
 pub mod Shown
 pub mod Objects
+pub mod Columns

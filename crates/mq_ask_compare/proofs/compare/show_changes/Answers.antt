@@ -40,3 +40,14 @@ returns-clause-json g c =
       objects = c.in_ok-text.ensures.objects json none;
       written = written;
     }) c.print_outcome.ensures.printed
+
+pub returns-clause-words : goal.returns-clause-words
+returns-clause-words g c =
+    on_ok_weaker c.print_outcome.result
+    (λ written. λ words. record {
+      changes = c.in_ok-changes.changes;
+      are = c.in_ok-changes.ensures.ok;
+      text = string_bytes c.in_ok-text.text;
+      words = c.in_ok-text.ensures.words words;
+      written = written;
+    }) c.print_outcome.ensures.printed
