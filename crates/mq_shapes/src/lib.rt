@@ -17,3 +17,4 @@ pub use clients::Clients;
 pub use every::Search;
 pub use found::{Found, Shaped};
 pub use prefix::Prefixes;
+pub use ruled::Ruled;
