@@ -11,3 +11,5 @@ pub mod TextLemmas
 pub mod PieceLemmas
 pub mod LongLemmas
 pub mod FeedLemmas
+pub mod SharedLemmas
+pub mod AddedLemmas

@@ -12,6 +12,7 @@ use Rattle.mq_jsonl.specs.Printed.{put_if, whole_data, numbers_data, text_if, wh
 use Rattle.mq_jsonl.specs.Printed.{Report, copy_members, closing_members, report_members}
 use Rattle.mq_jsonl.specs.Objects.{names_of, values_of, IsFor, parts_of, copy_names, reason_names}
 use Rattle.mq_jsonl.specs.Objects.{Parts, report_names}
+use Rattle.mq_jsonl.specs.Shared.{behind_members, behind_names}
 use Rattle.std.specs.Option.{option_map}
 
 -- ## Members as names and values
@@ -200,6 +201,39 @@ copy_refilled r k c ds old new b refill same =
     c.group in
     on_ok_weaker r (λ e. e ∙ ap (named (copy_names (parts_of c))) same ∙ named_so)
     (refilled_as r (copy_names (parts_of c)) ds old new b refill)
+
+-- ## The members behind a copy's payload
+
+abbrev pub set_behind : Copy → Members → Members
+set_behind c ms =
+    put (codes "topic") (string c.topic) (
+    put (codes "retain") (boolean c.retain) (
+    put (codes "qos") (whole_data c.qos) ms))
+
+forgets_behind : (c : Copy) (ds : List Data)
+    → set_behind c (named behind_names ds) ≡ set_behind c no_members
+unfolding behind_names
+forgets_behind c ds = refl
+
+-- once all is set, an object that fits the names of these members has them
+pub behind_again : (c : Copy) (ms : Members) → IsFor behind_names ms
+    → set_behind c ms ≡ behind_members c
+unfolding behind_members
+behind_again c ms fits = settled (set_behind c) behind_names ms (forgets_behind c) fits
+
+-- an object that is refilled with their values has them
+pub behind_refilled : {A E : Type 0} (r : Result A E) (c : Copy) (old new : Members) (b : Bool)
+    → IsRefill r behind_names (whole_data c.qos ∷ boolean c.retain ∷ string c.topic ∷ []) old new b
+    → OnOk r (new ≡ behind_members c)
+unfolding behind_names behind_members
+behind_refilled r c old new b refill =
+    refilled_as r behind_names (whole_data c.qos ∷ boolean c.retain ∷ string c.topic ∷ []) old new b
+    refill
+
+-- they fit their names
+pub behind_fits : (c : Copy) (ms : Members) → ms ≡ behind_members c → IsFor behind_names ms
+unfolding behind_members behind_names
+behind_fits c ms is = λ some. ap names_of is
 
 -- ## A closing line with a reason
 

@@ -6,3 +6,4 @@ pub mod Objects
 pub mod Behind
 pub mod Lines
 pub mod Feeding
+pub mod Shared

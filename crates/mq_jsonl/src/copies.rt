@@ -1,44 +1,23 @@
 //! The objects of the lines of copies, used again from line to line.
-ghost use Rattle.std.specs.Prelude.{◌≡◌, ◌++◌, ℕ, List, true, false, IsTrue, IfSome, OnOk, OnErr};
-ghost use Rattle.std.specs.Prelude.{map};
+ghost use Rattle.std.specs.Prelude.{◌≡◌, ◌++◌, ◌∷◌, ℕ, List, true, false, IfSome, IfOk, OnOk};
+ghost use Rattle.std.specs.Prelude.{OnErr, All, map};
 ghost use Rattle.std.specs.List.{flat_map};
 ghost use Rattle.std.specs.Option.{option_copied, option_map};
 ghost use Rattle.serde_json.specs.View.{members_view};
 ghost use Rattle.mq_world.specs.Views.{copy_of};
 ghost use Rattle.mq_jsonl.specs.Printed.{copy_members, copy_text};
 ghost use Rattle.mq_jsonl.specs.Objects.{IsFor, copy_names, parts, parts_of};
-ghost use Rattle.mq_jsonl.specs.Behind.{IsAlike, IsBehind, Follows, Keeps};
+ghost use Rattle.mq_jsonl.specs.Behind.{IsBehind, Follows, Keeps};
+ghost use Rattle.mq_jsonl.specs.Shared.{AddsRun};
 
+use crate::alike::{count_clients, count_messages, is_alike};
 use crate::object::{Datum, Object};
+use crate::printed::Printed;
+use crate::snippets::Snippets;
+use crate::texts::{filter_of, share_of, topic_of};
 use mq_topic::LevelText;
 use mq_world::Delivery;
 use std::alloc::{AllocError, Global};
-
-fn topic_of(delivery: &Delivery) -> &str
-    ensures { result.now ≡ (copy_of delivery.now).topic }
-{
-    delivery.topic.text()
-}
-
-fn share_of(delivery: &Delivery) -> Option<&str>
-    ensures { option_copied result
-        ≡ option_map (λ group. group.share) (copy_of delivery.now).group }
-{
-    match &delivery.group {
-        Some((share, _)) => Some(share.as_str()),
-        None => None,
-    }
-}
-
-fn filter_of(delivery: &Delivery) -> Option<&str>
-    ensures { option_copied result
-        ≡ option_map (λ group. group.filter) (copy_of delivery.now).group }
-{
-    match &delivery.group {
-        Some((_, filter)) => Some(filter.text()),
-        None => None,
-    }
-}
 
 #[tactic(auto, unfolding(crate::specs::Printed::copy_members))]
 fn put_copy(
@@ -114,18 +93,6 @@ fn set_copy(
     }
 }
 
-// Whether two copies, of which none is for a group, differ in their texts alone.
-fn is_alike(before: &Delivery, delivery: &Delivery) -> bool
-    ensures { IsTrue result → IsAlike (copy_of before.now) (copy_of delivery.now) }
-{
-    before.group.is_none()
-        && delivery.group.is_none()
-        && before.qos == delivery.qos
-        && before.retain == delivery.retain
-        && before.expiry == delivery.expiry
-        && before.ids == delivery.ids
-}
-
 // Writes the texts of a copy over those of one that is like it. Of one message they differ in their
 // clients alone.
 fn set_texts(
@@ -176,21 +143,18 @@ fn set_line(
 }
 
 // Where the object has the line of a copy that is like this one, only what differs is written.
-fn print_copy(
+fn copy_line(
     alloc: Global,
     kept: &mut Object,
     line: u64,
     delivery: &Delivery,
     before: Option<&Delivery>,
-    out: &mut Vec<u8>,
-) -> Result<(), AllocError>
+) -> Result<Vec<u8>, AllocError>
     requires fits { IsFor (copy_names (parts_of (copy_of delivery.now)))
         (members_view kept.old.members.entries) }
     requires before { IfSome (option_copied before) (λ before. IsBehind line (copy_of before)
         (copy_of delivery.now) (members_view kept.old.members.entries)) }
-    ensures ok { OnOk result (out.new.items ≡ out.old.items
-        ++ copy_text line (copy_of delivery.now)) }
-    ensures err { OnErr result (out.new.items ≡ out.old.items) }
+    ensures text { IfOk result (λ text. text.items ≡ copy_text line (copy_of delivery.now)) }
     ensures fits { IsFor (copy_names (parts_of (copy_of delivery.now)))
         (members_view kept.new.members.entries) }
     ensures kept { OnOk result (members_view kept.new.members.entries
@@ -200,7 +164,7 @@ fn print_copy(
         *kept = Object::new(alloc);
         return Err(AllocError);
     };
-    kept.print(alloc, out)
+    kept.line(alloc)
 }
 
 /// An object for copies without identifiers, interval and group, and one for those with each of these
@@ -218,6 +182,7 @@ pub struct Copies {
     with_group: Object,
     ghost group_names: { IsFor (copy_names (parts false false true))
         (members_view with_group.members.entries) },
+    snippets: Snippets,
 }
 
 // Opaque to callers' proofs: one step, and not one for each field (docs/explanation/gate.md).
@@ -228,6 +193,7 @@ impl Drop for Copies {
             with_ids: _,
             with_expiry: _,
             with_group: _,
+            snippets: _,
         } = self;
     }
 }
@@ -239,44 +205,73 @@ impl Copies {
             with_ids: Object::new(alloc),
             with_expiry: Object::new(alloc),
             with_group: Object::new(alloc),
+            snippets: Snippets::new(alloc),
         }
     }
 
-    fn print(
+    fn line(
         &mut self,
         alloc: Global,
         line: u64,
         delivery: &Delivery,
         before: Option<&Delivery>,
-        out: &mut Vec<u8>,
-    ) -> Result<(), AllocError>
+    ) -> Result<Vec<u8>, AllocError>
         requires { IfSome (option_copied before) (λ before. Follows line (copy_of before)
             (copy_of delivery.now) self.old.plain self.old.with_ids self.old.with_expiry
             self.old.with_group) }
-        ensures ok { OnOk result (out.new.items ≡ out.old.items
-            ++ copy_text line (copy_of delivery.now)) }
-        ensures err { OnErr result (out.new.items ≡ out.old.items) }
+        ensures text { IfOk result (λ text. text.items ≡ copy_text line (copy_of delivery.now)) }
         ensures kept { OnOk result
             (Keeps line (copy_of delivery.now) self.new.plain self.new.with_ids self.new.with_expiry
             self.new.with_group) }
     {
         match (delivery.ids.is_empty(), delivery.expiry, &delivery.group) {
-            (true, None, None) => print_copy(alloc, &mut self.plain, line, delivery, before, out),
-            (false, None, None) => {
-                print_copy(alloc, &mut self.with_ids, line, delivery, before, out)
-            }
+            (true, None, None) => copy_line(alloc, &mut self.plain, line, delivery, before),
+            (false, None, None) => copy_line(alloc, &mut self.with_ids, line, delivery, before),
             (true, Some(_), None) => {
-                print_copy(alloc, &mut self.with_expiry, line, delivery, before, out)
+                copy_line(alloc, &mut self.with_expiry, line, delivery, before)
             }
-            (true, None, Some(_)) => {
-                print_copy(alloc, &mut self.with_group, line, delivery, before, out)
-            }
-            _ => print_copy(alloc, &mut Object::new(alloc), line, delivery, None, out),
+            (true, None, Some(_)) => copy_line(alloc, &mut self.with_group, line, delivery, before),
+            _ => copy_line(alloc, &mut Object::new(alloc), line, delivery, None),
         }
     }
 
-    /// Adds a line for each copy. Where the one before differs in its texts alone, as most of one
-    /// publish do in their clients, only the texts that differ are written over.
+    // Prints the first copy's line whole, and of the next ones' what differs. Gives those that are
+    // left.
+    fn print_run<'a>(
+        &mut self,
+        alloc: Global,
+        line: u64,
+        first: &Delivery,
+        others: &'a [Delivery],
+        before: Option<&Delivery>,
+        out: &mut Vec<u8>,
+    ) -> Result<&'a [Delivery], AllocError>
+        requires { IfSome (option_copied before) (λ before. Follows line (copy_of before)
+            (copy_of first.now) self.old.plain self.old.with_ids self.old.with_expiry
+            self.old.with_group) }
+        ensures ok { IfOk result (λ left. AddsRun line first.now others.entry.now left.now
+            out.old.items out.new.items) }
+        ensures err { OnErr result ((more : List ℕ) × (out.new.items ≡ out.old.items ++ more)) }
+        ensures kept { OnOk result
+            (Keeps line (copy_of first.now) self.new.plain self.new.with_ids self.new.with_expiry
+            self.new.with_group) }
+    {
+        let text = self.line(alloc, line, first, before)?;
+        out.extend_from_slice(text.as_slice())?;
+        let printed = Printed {
+            line,
+            copy: first,
+            text,
+        };
+        let (clients, others) = others.split_at(count_clients(first, others));
+        printed.add_clients(alloc, &mut self.snippets, clients, out)?;
+        let (messages, left) = others.split_at(count_messages(first, others));
+        printed.add_messages(alloc, &mut self.snippets, messages, out)?;
+        Ok(left)
+    }
+
+    /// Adds a line for each copy. Of those that differ from one before them in their clients alone,
+    /// or in topic and payload, these texts are printed, and the rest is copied from its line.
     pub fn print_all(
         &mut self,
         alloc: Global,
@@ -289,13 +284,14 @@ impl Copies {
         ensures err { OnErr result ((more : List ℕ) × (out.new.items ≡ out.old.items ++ more)) }
     {
         let mut before: Option<&Delivery> = None;
-        for delivery in all {
+        let mut left = all;
+        while let Some((first, others)) = left.split_first() {
             let alike = match before {
-                Some(before) if is_alike(before, delivery) => Some(before),
+                Some(before) if is_alike(before, first) => Some(before),
                 _ => None,
             };
-            self.print(alloc, line, delivery, alike, out)?;
-            before = Some(delivery);
+            left = self.print_run(alloc, line, first, others, alike, out)?;
+            before = Some(first);
         }
         Ok(())
     }

@@ -5,14 +5,18 @@
 //! text line after line, and uses its objects again.
 #![tactic(auto)]
 
+mod alike;
 mod copies;
 mod fault;
 mod fields;
 mod line_buffer;
 mod line_feeder;
 mod object;
+mod printed;
 mod printer;
 mod read;
+mod snippets;
+mod texts;
 
 pub use fault::LineFault;
 pub use line_feeder::{LineFeeder, PIECE, SCRIPT_LIMIT};

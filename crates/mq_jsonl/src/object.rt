@@ -39,7 +39,7 @@ impl Datum<'_> {
 }
 
 /// Writes a text over a value. The memory of a text that is there is used again.
-fn set_text(alloc: Global, slot: &mut Value, text: &str) -> Result<(), AllocError>
+pub fn set_text(alloc: Global, slot: &mut Value, text: &str) -> Result<(), AllocError>
     ensures ok { OnOk result (view slot.new ≡ string text.now) }
     ensures err { OnErr result (has_float (view slot.old) ≡ false
         → has_float (view slot.new) ≡ false) }
@@ -251,11 +251,10 @@ impl Object {
         self.put(alloc, name, list)
     }
 
-    /// Adds the line. An error leaves the text as it is. The members stay.
-    pub fn print(&mut self, alloc: Global, out: &mut Vec<u8>) -> Result<(), AllocError>
-        ensures ok { OnOk result (out.new.items ≡ out.old.items
-            ++ line_text (members_view self.old.members.entries)) }
-        ensures err { OnErr result (out.new.items ≡ out.old.items) }
+    /// The line. The members stay.
+    pub fn line(&mut self, alloc: Global) -> Result<Vec<u8>, AllocError>
+        ensures text { IfOk result (λ line. line.items
+            ≡ line_text (members_view self.old.members.entries)) }
         ensures same { members_view self.new.members.entries
             ≡ members_view self.old.members.entries }
     {
@@ -264,6 +263,18 @@ impl Object {
         self.members = members_of(alloc, value);
         let mut line = written?;
         line.push(b'\n')?;
+        Ok(line)
+    }
+
+    /// Adds the line. An error leaves the text as it is. The members stay.
+    pub fn print(&mut self, alloc: Global, out: &mut Vec<u8>) -> Result<(), AllocError>
+        ensures ok { OnOk result (out.new.items ≡ out.old.items
+            ++ line_text (members_view self.old.members.entries)) }
+        ensures err { OnErr result (out.new.items ≡ out.old.items) }
+        ensures same { members_view self.new.members.entries
+            ≡ members_view self.old.members.entries }
+    {
+        let line = self.line(alloc)?;
         out.extend_from_slice(line.as_slice())
     }
 }

@@ -6,18 +6,18 @@ use Rattle.mq_world.specs.Views.{copy_of}
 use Rattle.mq_jsonl.specs.Objects.{IsFor, Parts, parts, copy_names}
 use Rattle.mq_jsonl.proofs.BehindLemmas.{parts_without_ids, parts_with_ids, held_follows}
 use Rattle.mq_jsonl.proofs.BehindLemmas.{held_keeps}
-use Rattle.mq_jsonl.proofs.copies.Copies.print.Goals as goal
+use Rattle.mq_jsonl.proofs.copies.Copies.line.Goals as goal
 
-pub print_copy-requires-clause-fits : goal.print_copy-requires-clause-fits
-print_copy-requires-clause-fits c =
+pub copy_line-requires-clause-fits : goal.copy_line-requires-clause-fits
+copy_line-requires-clause-fits c =
     let arm = c.in-true-None-None in
     let same = parts_without_ids c.args.delivery.now false false (sym arm.ensures)
     (ap is_some arm.is-1) (ap is_some arm.is-2) in
     subst (λ (p : Parts). IsFor (copy_names p)
     (members_view c.args.self.now.plain.members.entries)) (sym same) c.args.self.now.plain_names
 
-pub print_copy-requires-clause-before : goal.print_copy-requires-clause-before
-print_copy-requires-clause-before c =
+pub copy_line-requires-clause-before : goal.copy_line-requires-clause-before
+copy_line-requires-clause-before c =
     let arm = c.in-true-None-None in
     let same = parts_without_ids c.args.delivery.now false false (sym arm.ensures)
     (ap is_some arm.is-1) (ap is_some arm.is-2) in
@@ -32,22 +32,22 @@ returns-in-true-None-None-clause-kept c =
     let same = parts_without_ids c.args.delivery.now false false (sym arm.ensures)
     (ap is_some arm.is-1) (ap is_some arm.is-2) in
     let self = c.args.self.now in
-    let made = c.print_copy in
+    let made = c.copy_line in
     held_keeps made.result c.args.line (copy_of c.args.delivery.now) (parts false false false)
     made.new.kept self.with_ids self.with_expiry self.with_group _ same refl made.ensures.kept
 
-pub print_copy-requires-in-false-None-None-clause-fits :
-    goal.print_copy-requires-in-false-None-None-clause-fits
-print_copy-requires-in-false-None-None-clause-fits c =
+pub copy_line-requires-in-false-None-None-clause-fits :
+    goal.copy_line-requires-in-false-None-None-clause-fits
+copy_line-requires-in-false-None-None-clause-fits c =
     let arm = c.in-false-None-None in
     let same = parts_with_ids c.args.delivery.now false false (sym arm.ensures)
     (ap is_some arm.is-1) (ap is_some arm.is-2) in
     subst (λ (p : Parts). IsFor (copy_names p)
     (members_view c.args.self.now.with_ids.members.entries)) (sym same) c.args.self.now.ids_names
 
-pub print_copy-requires-in-false-None-None-clause-before :
-    goal.print_copy-requires-in-false-None-None-clause-before
-print_copy-requires-in-false-None-None-clause-before c =
+pub copy_line-requires-in-false-None-None-clause-before :
+    goal.copy_line-requires-in-false-None-None-clause-before
+copy_line-requires-in-false-None-None-clause-before c =
     let arm = c.in-false-None-None in
     let same = parts_with_ids c.args.delivery.now false false (sym arm.ensures)
     (ap is_some arm.is-1) (ap is_some arm.is-2) in
@@ -62,13 +62,13 @@ returns-in-false-None-None-clause-kept c =
     let same = parts_with_ids c.args.delivery.now false false (sym arm.ensures)
     (ap is_some arm.is-1) (ap is_some arm.is-2) in
     let self = c.args.self.now in
-    let made = c.print_copy-in-false-None-None in
+    let made = c.copy_line-in-false-None-None in
     held_keeps made.result c.args.line (copy_of c.args.delivery.now) (parts true false false)
     self.plain made.new.kept self.with_expiry self.with_group _ same refl made.ensures.kept
 
-pub print_copy-requires-in-true-Some-None-clause-fits :
-    goal.print_copy-requires-in-true-Some-None-clause-fits
-print_copy-requires-in-true-Some-None-clause-fits c =
+pub copy_line-requires-in-true-Some-None-clause-fits :
+    goal.copy_line-requires-in-true-Some-None-clause-fits
+copy_line-requires-in-true-Some-None-clause-fits c =
     let arm = c.in-true-Some-None in
     let same = parts_without_ids c.args.delivery.now true false (sym arm.ensures)
     (ap is_some arm.is-1) (ap is_some arm.is-2) in
@@ -76,9 +76,9 @@ print_copy-requires-in-true-Some-None-clause-fits c =
     (members_view c.args.self.now.with_expiry.members.entries)) (sym same)
     c.args.self.now.expiry_names
 
-pub print_copy-requires-in-true-Some-None-clause-before :
-    goal.print_copy-requires-in-true-Some-None-clause-before
-print_copy-requires-in-true-Some-None-clause-before c =
+pub copy_line-requires-in-true-Some-None-clause-before :
+    goal.copy_line-requires-in-true-Some-None-clause-before
+copy_line-requires-in-true-Some-None-clause-before c =
     let arm = c.in-true-Some-None in
     let same = parts_without_ids c.args.delivery.now true false (sym arm.ensures)
     (ap is_some arm.is-1) (ap is_some arm.is-2) in
@@ -93,13 +93,13 @@ returns-in-true-Some-None-clause-kept c =
     let same = parts_without_ids c.args.delivery.now true false (sym arm.ensures)
     (ap is_some arm.is-1) (ap is_some arm.is-2) in
     let self = c.args.self.now in
-    let made = c.print_copy-in-true-Some-None in
+    let made = c.copy_line-in-true-Some-None in
     held_keeps made.result c.args.line (copy_of c.args.delivery.now) (parts false true false)
     self.plain self.with_ids made.new.kept self.with_group _ same refl made.ensures.kept
 
-pub print_copy-requires-in-true-None-Some-clause-fits :
-    goal.print_copy-requires-in-true-None-Some-clause-fits
-print_copy-requires-in-true-None-Some-clause-fits c =
+pub copy_line-requires-in-true-None-Some-clause-fits :
+    goal.copy_line-requires-in-true-None-Some-clause-fits
+copy_line-requires-in-true-None-Some-clause-fits c =
     let arm = c.in-true-None-Some in
     let same = parts_without_ids c.args.delivery.now false true (sym arm.ensures)
     (ap is_some arm.is-1) (ap is_some arm.is-2) in
@@ -107,9 +107,9 @@ print_copy-requires-in-true-None-Some-clause-fits c =
     (members_view c.args.self.now.with_group.members.entries)) (sym same)
     c.args.self.now.group_names
 
-pub print_copy-requires-in-true-None-Some-clause-before :
-    goal.print_copy-requires-in-true-None-Some-clause-before
-print_copy-requires-in-true-None-Some-clause-before c =
+pub copy_line-requires-in-true-None-Some-clause-before :
+    goal.copy_line-requires-in-true-None-Some-clause-before
+copy_line-requires-in-true-None-Some-clause-before c =
     let arm = c.in-true-None-Some in
     let same = parts_without_ids c.args.delivery.now false true (sym arm.ensures)
     (ap is_some arm.is-1) (ap is_some arm.is-2) in
@@ -124,51 +124,19 @@ returns-in-true-None-Some-clause-kept c =
     let same = parts_without_ids c.args.delivery.now false true (sym arm.ensures)
     (ap is_some arm.is-1) (ap is_some arm.is-2) in
     let self = c.args.self.now in
-    let made = c.print_copy-in-true-None-Some in
+    let made = c.copy_line-in-true-None-Some in
     held_keeps made.result c.args.line (copy_of c.args.delivery.now) (parts false false true)
     self.plain self.with_ids self.with_expiry made.new.kept _ same refl made.ensures.kept
 
-pub print_copy-requires-in_default-clause-fits : goal.print_copy-requires-in_default-clause-fits
-print_copy-requires-in_default-clause-fits c = rw c.new.ensures (λ some. absurd (some refl))
+pub copy_line-requires-in_default-clause-fits : goal.copy_line-requires-in_default-clause-fits
+copy_line-requires-in_default-clause-fits c = rw c.new.ensures (λ some. absurd (some refl))
 
-pub print_copy-requires-in_default-clause-before :
-    goal.print_copy-requires-in_default-clause-before
-print_copy-requires-in_default-clause-before c = tt
+pub copy_line-requires-in_default-clause-before :
+    goal.copy_line-requires-in_default-clause-before
+copy_line-requires-in_default-clause-before c = tt
 
 pub returns-in_default-clause-kept : goal.returns-in_default-clause-kept
 returns-in_default-clause-kept c = grind (arith, common_steps)
-
--- ## The text is what one copy prints
-
-pub returns-in-true-None-None-clause-ok : goal.returns-in-true-None-None-clause-ok
-returns-in-true-None-None-clause-ok c = c.print_copy.ensures.ok
-
-pub returns-in-true-None-None-clause-err : goal.returns-in-true-None-None-clause-err
-returns-in-true-None-None-clause-err c = c.print_copy.ensures.err
-
-pub returns-in-false-None-None-clause-ok : goal.returns-in-false-None-None-clause-ok
-returns-in-false-None-None-clause-ok c = c.print_copy-in-false-None-None.ensures.ok
-
-pub returns-in-false-None-None-clause-err : goal.returns-in-false-None-None-clause-err
-returns-in-false-None-None-clause-err c = c.print_copy-in-false-None-None.ensures.err
-
-pub returns-in-true-Some-None-clause-ok : goal.returns-in-true-Some-None-clause-ok
-returns-in-true-Some-None-clause-ok c = c.print_copy-in-true-Some-None.ensures.ok
-
-pub returns-in-true-Some-None-clause-err : goal.returns-in-true-Some-None-clause-err
-returns-in-true-Some-None-clause-err c = c.print_copy-in-true-Some-None.ensures.err
-
-pub returns-in-true-None-Some-clause-ok : goal.returns-in-true-None-Some-clause-ok
-returns-in-true-None-Some-clause-ok c = c.print_copy-in-true-None-Some.ensures.ok
-
-pub returns-in-true-None-Some-clause-err : goal.returns-in-true-None-Some-clause-err
-returns-in-true-None-Some-clause-err c = c.print_copy-in-true-None-Some.ensures.err
-
-pub returns-in_default-clause-ok : goal.returns-in_default-clause-ok
-returns-in_default-clause-ok c = c.print_copy-in_default.ensures.ok
-
-pub returns-in_default-clause-err : goal.returns-in_default-clause-err
-returns-in_default-clause-err c = c.print_copy-in_default.ensures.err
 
 pub invariant_of-self : goal.invariant_of-self
 invariant_of-self c =
@@ -178,7 +146,7 @@ invariant_of-self c =
     let self = c.args.self.now in
     record {
       plain_names = subst (λ (p : Parts). IsFor (copy_names p)
-          (members_view c.print_copy.new.kept.members.entries)) same c.print_copy.ensures.fits;
+          (members_view c.copy_line.new.kept.members.entries)) same c.copy_line.ensures.fits;
       ids_names = self.ids_names;
       expiry_names = self.expiry_names;
       group_names = self.group_names;
@@ -190,7 +158,7 @@ invariant_of-self-in-Some-1 c =
     let same = parts_without_ids c.args.delivery.now false true (sym arm.ensures)
     (ap is_some arm.is-1) (ap is_some arm.is-2) in
     let self = c.args.self.now in
-    let made = c.print_copy-in-true-None-Some in
+    let made = c.copy_line-in-true-None-Some in
     record {
       plain_names = self.plain_names;
       ids_names = self.ids_names;
