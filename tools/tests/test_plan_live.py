@@ -128,8 +128,8 @@ class Live(Folder):
     def on_this_broker(self, block: str) -> subprocess.CompletedProcess:
         tools = self.folder / "tools"
         tools.mkdir(exist_ok=True)
-        program = tools / "mqroute-plan"
-        program.write_text(f"#!/bin/sh\nexec {sys.executable} {HERE / 'plan.py'} \"$@\"\n")
+        program = tools / "mqr"
+        program.write_text(f"#!/bin/sh\nexec {sys.executable} {HERE / 'mqr.py'} \"$@\"\n")
         program.chmod(0o755)
         block = block.replace("-h broker", f"-h 127.0.0.1 -p {self.port}").replace(
             "what-is-retained.sh 5 ", "what-is-retained.sh 1 ")
