@@ -15,7 +15,8 @@ from mqroute_tools import cli, questions  # noqa: E402
 from mqroute_tools.common.arguments import Parser  # noqa: E402
 
 OPTION = re.compile(r"^  (?:-h, )?(--[a-z-]+)(?: (\S.*?))?(?:  .*)?$", re.M)
-ARGUMENT = re.compile(r'Argument\(\s*"([a-z-]+)",\s*ArgumentKind::(\w+)(?:\("([A-Z]+)"(?:, "[a-z-]+")?\))?')
+ARGUMENT = re.compile(r'Argument\(\s*"([a-z-]+)",\s*ArgumentKind::(\w+)'
+                      r'(?:\("([A-Z]+)"(?:, "[a-z-]+")?\))?')
 # What stands for the positional arguments of all commands.
 POSITIONALS = {
     "OLD", "NEW", "LIST", "EXPECTED", "CLIENT", "TOPIC", "FILTER", "SCRIPT", "LINE", "LOG",

@@ -1,7 +1,7 @@
 """Of which build the programs are, by the checksums of their files.
 
-A file PROGRAMS has a line for each: its SHA-256, its name, and of which commit it is, whether it was
-proved and by which kit. It stands beside the programs of a clone, and beside the modules of a
+A file PROGRAMS has a line for each: its SHA-256, its name, and of which commit it is, whether it
+was proved and by which kit. It stands beside the programs of a clone, and beside the modules of a
 package or an installation. `python3 -m mqroute_tools.common.built FILE..` writes those lines for
 these files, with what is known of the programs of the clone that have their names.
 """
