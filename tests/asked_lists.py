@@ -3,12 +3,8 @@ topic of few levels (plain_lists.py)."""
 import itertools
 import json
 
-from plain_lists import Row, accesses, allowed, deciding, limits_of
+from plain_lists import accesses, allowed, deciding, is_asked, is_taken, limits_of, number_of
 from worded_answers import faults_of_words, placeholders_of, who_words
-
-
-def number_of(row):
-    return row and row.number
 
 
 def whom(rows, user):
@@ -16,35 +12,36 @@ def whom(rows, user):
     return user if user is None or user in {row.user for row in rows} else "*"
 
 
-def faults_of_permission(rules, rows, asked, shown):
+def faults_of_permission(rules, rows, wanted, shown):
     """What is wrong with one that is listed."""
     for each, may in ((shown, True), *((other, False) for other in shown["not"])):
         client, user, topic = each["client"], each["user"], each["topic"]
         row, _ = deciding(rules, rows, client, user, topic, shown["access"])
-        if (not rules.covers(asked, client, user, topic)
+        if (not is_asked(rules, wanted, client, user, topic)
                 or allowed(rules, rows, client, user, topic, shown["access"]) != may
                 or (each["line"] and each["line"]["line"]) != number_of(row)
                 or whom(rows, user) != whom(rows, shown["user"])):
             yield f"who: {each} isn't so, by {row}"
-    unnamed = placeholders_of(rules, rows, asked.filter, shown)
+    unnamed = placeholders_of(rules, rows, wanted, shown)
     if set(shown["placeholders"]) != unnamed:
         yield f"who: {shown} has other placeholders than {unnamed}"
 
 
-def faults_of_missing(rules, rows, asked, shown, asked_about):
+def faults_of_missing(rules, rows, wanted, shown, asked_about):
     """What is allowed and not listed, or listed as every topic though one isn't allowed. Where the
     filter doesn't name what the broker refuses by itself, `every` isn't about that."""
     listed = {(whom(rows, each["user"]), each["access"]) for each in shown}
     whole = {(whom(rows, each["user"]), each["access"]) for each in shown if each["every"]}
     for client, user, topic in asked_about:
-        if not rules.covers(asked, client, user, topic):
+        if not is_asked(rules, wanted, client, user, topic):
             continue
+        taken = is_taken(rules, rows, client, user)
         may = accesses(rules, rows, client, user, topic)
         for access in ("read", "write"):
             kind = (whom(rows, user), access)
-            if rules.refuses(topic, access) and not rules.refuses(asked.filter, access):
+            if rules.refuses(topic, access) and not rules.refuses(wanted, access):
                 continue
-            if kind not in listed if access in may else kind in whole:
+            if kind not in listed if access in may else taken and kind in whole:
                 yield f"who: {user} {access} {topic} as {client} isn't listed rightly: {shown}"
                 return
 
@@ -56,14 +53,13 @@ def faults_of_who(rules, run, folder, wanted, rows, asked_about, left_out):
     shown = [json.loads(line) for line in done.stdout.splitlines()]
     refused = [{"refused": access} for access in ("read", "write")
                if rules.refuses(wanted, access)]
-    last = refused + limits_of(rules, True)
+    last = refused + limits_of(rules)
     if done.returncode != 0 or done.stderr or shown[len(shown) - len(last):] != last:
         yield f"who {wanted}: status {done.returncode}: {done.stderr}{shown}"
     shown = shown[:len(shown) - len(last)]
-    asked = Row(0, True, None, "readwrite", wanted)
     for each in shown:
-        yield from faults_of_permission(rules, rows, asked, each)
-    yield from faults_of_missing(rules, rows, asked, shown, asked_about)
+        yield from faults_of_permission(rules, rows, wanted, each)
+    yield from faults_of_missing(rules, rows, wanted, shown, asked_about)
     yield from faults_of_words(run, folder, [*words, "--", wanted],
                                who_words(rules, rows, wanted, shown, last))
     names = ",".join(left_out)

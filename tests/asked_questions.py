@@ -1,7 +1,7 @@
 """Files of questions, each answer beside the test of its own client, user and topic."""
 import json
 
-from asked_lists import number_of
+from plain_lists import number_of
 from plain_lists import allowed, deciding
 
 MOST = 60  # questions of a file

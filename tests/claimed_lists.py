@@ -5,8 +5,7 @@ import pathlib
 from typing import NamedTuple
 from xml.etree import ElementTree
 
-from asked_lists import number_of
-from plain_lists import Row, allowed, deciding, limits_of
+from plain_lists import allowed, deciding, is_asked, is_taken, limits_of, number_of
 from worded_answers import any_words, faults_of_words, tested_words
 
 HOLDS = {"": "every", "some ": "some", "not ": "none"}
@@ -44,10 +43,9 @@ def is_one(rows, user, whom):
 
 
 def is_claimed(rules, rows, claim, client, user, topic):
-    asked = Row(0, True, None, "readwrite", claim.wanted)
     return (is_one(rows, user, claim.whom)
             and not any(is_one(rows, user, whom) for whom in claim.left_out)
-            and rules.covers(asked, client, user, topic))
+            and is_asked(rules, claim.wanted, client, user, topic))
 
 
 def unnamed(rows, claim):
@@ -91,7 +89,8 @@ def faults_of_verdict(rules, rows, claim, shown, asked_about):
             continue
         # What the broker refuses by itself isn't asked where each is to be allowed it.
         may = {allowed(rules, rows, *case, access) for case in cases
-               if HOLDS[claim.holds] != "every" or not rules.refuses(case[2], access)}
+               if HOLDS[claim.holds] != "every"
+               or is_taken(rules, rows, *case[:2]) and not rules.refuses(case[2], access)}
         wrong = {"every": False, "none": True}.get(HOLDS[claim.holds])
         if (True in may if shown["kind"] == "none may" else wrong in may):
             yield f"test: {claim.line()}: {shown}, and {access} {may}"
@@ -108,13 +107,13 @@ def faults_of_claims(rules, run, folder, chance, random_filter, rows, asked_abou
     shown = shown[:len(claims)]
     hold = sum(each["holds"] for each in shown)
     if (counts != [{"expectations": len(claims), "hold": hold}] or done.stderr
-            or limits != limits_of(rules, True)
+            or limits != limits_of(rules)
             or done.returncode != (0 if hold == len(claims) else 1)):
         yield f"test: status {done.returncode}: {done.stdout}{done.stderr}{lines}"
         return
     yield from faults_of_words(
         run, folder, ["test", *rules.words, "--json", "old.expected", "old.acl"],
-        tested_words(rules, [*shown, *counts]))
+        tested_words(rules, [*shown, *counts], named_in(rows)))
     for claim, each in zip(claims, shown):
         yield from faults_of_verdict(rules, rows, claim, each, asked_about)
     suite = ElementTree.parse(pathlib.Path(folder, "old.xml")).find("testsuite")
@@ -134,13 +133,12 @@ def faults_of_any(rules, run, folder, user, wanted, rows, asked_about):
         if (done.returncode, done.stdout) != (2, ""):
             yield f"reach --any {wanted}: user {user}: status {done.returncode}: {done.stdout}"
         return
-    shown, *limits = [json.loads(line) for line in done.stdout.splitlines()]
-    if (done.returncode != (1 if shown["topic"] is None else 0) or shown["user"] != user
-            or limits != limits_of(rules, True)):
+    shown = json.loads(done.stdout)
+    if done.returncode != (1 if shown["topic"] is None else 0) or shown["user"] != user:
         yield f"reach --any {wanted}: status {done.returncode}: {shown}"
     yield from faults_of_words(
         run, folder, ["reach", *rules.words, "--json", "old.acl", f"--any={wanted}", *named],
-        any_words(rules, shown))
+        any_words(shown, named_in(rows)))
     claim = Claim(user or "anonymous", "not ", "read", wanted, ())
     if shown["topic"] is not None:
         decided = shown | {"access": "read", "decided": shown["line"]}

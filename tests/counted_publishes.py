@@ -3,27 +3,35 @@ import collections
 import json
 import pathlib
 
-from plain_lists import Row, deciding
+from plain_lists import MosquittoRules, Row, deciding, is_asked
 
 NO_PUBLISHES = ["x", "", '{"do":"stat"}', '{"do":"publish","client":"c","topic":"a/+"}']
 
 
-def may_match(row, topic):
+def rest_matches(rules, is_pattern, wanted, levels):
+    """Whether these levels of a filter match those of a topic, for some client."""
+    if not wanted or wanted[0] == "#":
+        return bool(wanted) or not levels
+    is_mark = is_pattern and wanted[0] in ("%c", "%u")
+    if not levels or not (is_mark or wanted[0] in ("+", levels[0])):
+        return False
+    return rest_matches(rules, is_pattern, wanted[1:], levels[1:]) or (
+        is_mark and rules is MosquittoRules and len(levels) > 1
+        and rest_matches(rules, is_pattern, wanted, levels[1:]))
+
+
+def may_match(rules, row, topic):
     """Whether the row covers the topic for some client."""
     wanted, levels = row.filter.split("/"), topic.split("/")
     if topic.startswith("$") and wanted[0] in ("+", "#"):
         return False
-    if wanted[-1] == "#":
-        wanted.pop()
-        levels = levels[:len(wanted)]
-    free = ("+", "%c", "%u") if row.is_pattern else ("+",)
-    return len(wanted) == len(levels) and all(
-        w in free or w == l for w, l in zip(wanted, levels))
+    return rest_matches(rules, row.is_pattern, wanted, levels)
 
 
-def counts_of(topics, rows):
+def counts_of(rules, topics, rows):
     """How many publishes are to topics that all of the rows may cover, and to how many topics."""
-    found = [count for topic, count in topics.items() if all(may_match(row, topic) for row in rows)]
+    found = [count for topic, count in topics.items()
+             if all(may_match(rules, row, topic) for row in rows)]
     return sum(found), len(found)
 
 
@@ -50,8 +58,8 @@ def is_decided(rules, rows, line, case, access):
 
 def faults_of_shown(shown, lines, topics, rows, rules, lists, asked_about):
     counts = shown["publishes"], shown["topics"]
-    if counts != counts_of(topics, rows):
-        yield f"{shown} counts {counts}, not {counts_of(topics, rows)}"
+    if counts != counts_of(rules, topics, rows):
+        yield f"{shown} counts {counts}, not {counts_of(rules, topics, rows)}"
     meant = {case[2] for case in asked_about if case[2] in topics and all(
         is_decided(rules, of, line, case, shown["access"]) for of, line in zip(lists, lines))}
     if len(meant) > shown["topics"]:
@@ -73,7 +81,7 @@ def faults_of_counts(rules, run, folder, chance, names, wanted, lists, asked_abo
         yield from faults_of_shown(
             shown, lines, topics, rows_at(lines, lists), rules, lists, asked_about)
     asked = Row(0, True, None, "readwrite", wanted)
-    covered = [case for case in asked_about if rules.covers(asked, case[0], case[1], case[2])]
+    covered = [case for case in asked_about if is_asked(rules, wanted, *case)]
     words = ["who", *rules.words, "--json", "old.acl"]
     access = chance.choice(["read", "write"])
     for shown in shown_by(run, folder, [*words, f"--access={access}", wanted]):

@@ -40,6 +40,10 @@ def filter_matches(text, topic):
     return len(wanted) == len(levels) and all(w in ("+", l) for w, l in zip(wanted, levels))
 
 
+# For whom `who` and `test` say by mosquitto's rules what clients may not.
+LIMITED_TO = ("client ids without + and #, and user names without them or in the list; others may "
+              "do no more")
+
 # Where bridges tell their state (mosquitto.conf(5), `notifications`).
 STATES = "$SYS/broker/connection/+/state"
 
@@ -98,14 +102,35 @@ class MosquittoRules:
         return filter_matches(filled if user is None else filled.replace("%u", user), topic)
 
 
-def limits_of(rules, is_limited):
-    """What an answer as JSON ends with, where some client ids and user names are left out."""
-    limit = {"limited_to": "client ids and user names without /, + and #"}
-    return [limit] if rules is MosquittoRules and is_limited else []
+def is_asked(rules, wanted, client, user, topic):
+    """Whether a filter that is asked about matches the topic for the client: as that of a `pattern`
+    line, and by mosquitto's rules without a mark for every client."""
+    if rules is MosquittoRules and "%c" not in wanted and "%u" not in wanted:
+        return filter_matches(wanted, topic)
+    return rules.covers(Row(0, True, None, "readwrite", wanted), client, user, topic)
 
 
-def has_patterns(rows):
-    return any(row.is_pattern for row in rows)
+def is_taken(rules, rows, client, user):
+    """Whether it is said of the client what it may not: by mosquitto's rules no `pattern` line is
+    asked of others, nor does a line name them."""
+    if rules is OwnRules:
+        return True
+    if user is not None and is_wild(user):
+        return user in {row.user for row in rows}
+    return not is_wild(client)
+
+
+def is_wild(name):
+    return bool({"+", "#"} & set(name))
+
+
+def limits_of(rules):
+    """What the answers of `who` and `test` end with as JSON."""
+    return [{"limited_to": LIMITED_TO}] if rules is MosquittoRules else []
+
+
+def number_of(row):
+    return row and row.number
 
 
 def deciding(rules, rows, client, user, topic, access):

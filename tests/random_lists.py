@@ -6,14 +6,14 @@ import pathlib
 import random
 import subprocess
 
-from asked_lists import cases_of, faults_of_who, number_of
+from asked_lists import cases_of, faults_of_who
 from asked_questions import faults_of_questions
 from changed_plans import faults_of_plan
 from claimed_lists import faults_of_any, faults_of_claims
 from counted_publishes import faults_of_counts
 from plain_lists import (
-    MosquittoRules, OwnRules, accesses, allowed, deciding, filter_matches, has_patterns, limits_of,
-    rows_of)
+    MosquittoRules, OwnRules, accesses, allowed, deciding, filter_matches, is_wild,
+    number_of, rows_of)
 from shown_differences import faults_of_placeholders, faults_of_shown, line_of
 from worded_answers import faults_of_words, lint_words, reach_words, why_words
 from worded_differences import words_of
@@ -30,19 +30,20 @@ def run(words, folder, given=""):
 
 
 LEVELS = ["a", "b", "", "$s", "$SYS", "$sharex", "c1", "u1"]
-USERS = [None, "u1", "u2", "zz"]
-# Names that no question but those about one client is asked for by mosquitto's rules.
+# Names of several levels, and those of which by mosquitto's rules no `pattern` line is asked.
 ODD_NAMES = ["a/b", "c1/u1", "a+", "#"]
-CLIENTS = ["c1", "a", "u1", "q", "$s", "$SYS"]
+USERS = [None, "u1", "u2", "zz", *ODD_NAMES]
+CLIENTS = ["c1", "a", "u1", "q", "$s", "$SYS", *ODD_NAMES]
+PLAIN_NAMES = [name for name in {*CLIENTS, *USERS} - {None} if not is_wild(name)]
 TOPICS = sorted(
     {"/".join(levels) for count in (1, 2)
      for levels in itertools.product(LEVELS + ["x", "$x"], repeat=count)} - {""}
-    | {*CLIENTS, *(user for user in USERS if user)}
+    | {*PLAIN_NAMES}
     | {"/".join(levels) for levels in itertools.product(["a", "", "$s", "c1", "u1"], repeat=3)})
 
 
 CASES = cases_of(USERS, CLIENTS, TOPICS)
-WHO_AND_WHAT = [*CLIENTS, *ODD_NAMES], [*USERS, *ODD_NAMES], TOPICS
+WHO_AND_WHAT = CLIENTS, USERS, TOPICS
 
 
 def random_filter(chance, is_pattern):
@@ -57,7 +58,7 @@ def random_list(chance):
     lines = []
     for _ in range(chance.randint(0, 6)):
         if chance.random() < 0.2:
-            lines.append("user " + chance.choice(["u1", "u2", "a"]))
+            lines.append("user " + chance.choice(["u1", "u2", "a", "a/b", "a+"]))
         is_pattern = chance.random() < 0.4
         access = chance.choice(["read", "write", "readwrite", "deny"])
         lines.append(
@@ -76,49 +77,30 @@ def near(chance, lines):
     return lines
 
 
-def limit_of(name, rows):
-    """What is noted by mosquitto's rules of a list with pattern lines, of which there are few."""
-    numbers = [str(row.number) for row in rows if row.is_pattern]
-    if not numbers:
-        return ""
-    return (f"mqroute-acl: {name} has pattern lines ({', '.join(numbers)}): the answer is for "
-            "client ids and user names without /, + and #\n")
-
-
-def faults_of_noted(rules, noted, lists):
-    """What is wrong with the notes on lists by name."""
-    limits = "" if rules is OwnRules else "".join(limit_of(*each) for each in lists.items())
-    if noted != limits:
-        yield f"noted: {noted}"
-
-
 def faults_of_compare(rules, folder, old, new):
     """Of each class of clients, access and way a difference is listed; and where no line has a
     mark, of each pair of lines that decides."""
     done = run(["compare", *rules.words, "--json", "old.acl", "new.acl"], folder)
     shown = [json.loads(line) for line in done.stdout.splitlines()]
     old_rows, new_rows = rows_of(old), rows_of(new)
-    limits = limits_of(rules, has_patterns(old_rows + new_rows))
-    if shown[len(shown) - len(limits):] != limits:
-        yield f"{shown} doesn't say for whom"
-    shown = shown[:len(shown) - len(limits)]
     for difference in shown:
         for fault in (*faults_of_shown(rules, difference, old_rows, new_rows),
                       *faults_of_placeholders(rules, difference, old_rows, new_rows)):
             yield f"{difference} {fault}"
     if done.returncode != (1 if shown else 0):
         yield f"status {done.returncode}"
-    yield from faults_of_noted(rules, done.stderr, {"old.acl": old_rows, "new.acl": new_rows})
+    if done.stderr:
+        yield f"noted: {done.stderr}"
+    named = {row.user for row in old_rows + new_rows} - {None}
     worded = run(["compare", *rules.words, "old.acl", "new.acl"], folder).stdout
-    if shown and worded != words_of(rules, shown, bool(limits)):
+    if shown and worded != words_of(rules, shown, named):
         yield f"is worded otherwise than {shown}: {worded}"
     for way in ("gained", "lost"):
         done = run(["compare", *rules.words, "--json", "--only", way, "old.acl", "new.acl"], folder)
         wanted = [each for each in shown if each["change"] == way]
         if ([json.loads(line) for line in done.stdout.splitlines()], done.returncode) != (
-                wanted + limits, 1 if wanted else 0):
+                wanted, 1 if wanted else 0):
             yield f"--only {way}: status {done.returncode}: {done.stdout}"
-    named = {row.user for row in old_rows + new_rows} - {None}
     by_lines = "%" not in old + new
 
     def kind(user, access, change, *lines):
@@ -163,7 +145,7 @@ def asked_of(question, rules, client, user, topic):
 
 def faults_of_why(rules, folder, chance, text):
     rows = rows_of(text)
-    client, user = chance.choice([*CLIENTS, *ODD_NAMES]), chance.choice([*USERS, *ODD_NAMES])
+    client, user = chance.choice(CLIENTS), chance.choice(USERS)
     topic = chance.choice(TOPICS)
     words = asked_of("why", rules, client, user, topic)
     done = run(words, folder)
@@ -189,7 +171,7 @@ def faults_of_why(rules, folder, chance, text):
 
 def faults_of_reach(rules, folder, chance, text):
     rows = rows_of(text)
-    client, user = chance.choice([*CLIENTS, *ODD_NAMES]), chance.choice([*USERS, *ODD_NAMES])
+    client, user = chance.choice(CLIENTS), chance.choice(USERS)
     wanted = random_filter(chance, False)
     share = chance.choice(["", "", "$share/g/"])
     words = asked_of("reach", rules, client, user, share + wanted)
@@ -208,7 +190,7 @@ def faults_of_reach(rules, folder, chance, text):
 
 # Topics with all that small lists and filters tell apart: no row has more than three levels, %c and
 # %u are names.
-NAMES = sorted({*LEVELS, *CLIENTS, *(user for user in USERS if user), "x", "$x"})
+NAMES = sorted({*LEVELS, *PLAIN_NAMES, "x", "$x"})
 DEEP = ["/".join(levels) for count in (2, 3) for levels in itertools.product(NAMES, repeat=count)]
 DEEP += [topic + "/x" for topic in DEEP]
 
@@ -328,16 +310,13 @@ def faults_of_needless(rules, folder, lines):
     done = run(["lint", *rules.words, "--json", "old.acl"], folder)
     rows = rows_of("\n".join(lines))
     shown = [json.loads(line) for line in done.stdout.splitlines()]
-    limits = [{"file": "old.acl", **limit} for limit in limits_of(rules, has_patterns(rows))]
-    if shown[len(shown) - len(limits):] != limits:
-        yield f"lint: {shown} doesn't say for whom"
-    shown = shown[:len(shown) - len(limits)]
     counted = [each for each in shown if each["kind"] != "denies nothing"]
     kinds = ("needless", "repeats", "no mark", "empty")
     if (done.returncode != (1 if counted else 0)
             or any(each["kind"] not in kinds for each in counted)):
         yield f"lint: status {done.returncode}: {done.stdout}{done.stderr}"
-    yield from faults_of_noted(rules, done.stderr, {"old.acl": rows})
+    if done.stderr:
+        yield f"lint: noted: {done.stderr}"
     if shown:
         words = ["lint", *rules.words, "--json", "old.acl"]
         yield from faults_of_words(run, folder, words, lint_words(shown))

@@ -1,6 +1,5 @@
 """What is wrong with a difference of two lists that is shown (random_lists.py)."""
-from asked_lists import number_of
-from plain_lists import STATES, MosquittoRules, allowed, deciding
+from plain_lists import STATES, MosquittoRules, allowed, deciding, number_of
 
 
 def faults_of_shown(rules, shown, old, new):
@@ -15,21 +14,43 @@ def faults_of_shown(rules, shown, old, new):
             yield f"is decided by {row}"
 
 
+def texts_of(rules, shown):
+    """Its texts, and by mosquitto's rules their levels, but for a client id with a wildcard."""
+    names = [shown["client"], shown["user"]]
+    if rules is MosquittoRules:
+        names = [level for name in names if name not in (None, "+") for level in name.split("/")]
+    return {*names, *shown["topic"].split("/")} - {None}
+
+
+def known_in(rules, rows):
+    """The texts that rows name, and by mosquitto's rules the levels."""
+    users = {row.user for row in rows} - {None}
+    known = {text for row in rows for text in row.filter.split("/")}
+    if rules is not MosquittoRules:
+        return known | users
+    return known | {level for user in users for level in user.split("/")} | set(STATES.split("/"))
+
+
+def moved(rules, shown, text, other):
+    """With another text in the place of this one."""
+    def put(name):
+        if rules is MosquittoRules and name not in (None, "+"):
+            return "/".join(other if level == text else level for level in name.split("/"))
+        return other if name == text else name
+
+    topic = "/".join(other if level == text else level for level in shown["topic"].split("/"))
+    return {**shown, "client": put(shown["client"]), "user": put(shown["user"]), "topic": topic}
+
+
 def faults_of_placeholders(rules, shown, old, new):
     """What is wrong with its placeholders: they are those of its texts that no line names, and with
     another text in the place of each it is shown as rightly."""
-    texts = {shown["client"], shown["user"], *shown["topic"].split("/")} - {None}
-    known = {text for row in old + new for text in (row.user, *row.filter.split("/"))}
-    known |= set(STATES.split("/")) if rules is MosquittoRules else set()
-    if set(shown["placeholders"]) != texts - known:
-        yield f"has other placeholders than {texts - known}"
+    unnamed = texts_of(rules, shown) - known_in(rules, old + new)
+    if set(shown["placeholders"]) != unnamed:
+        yield f"has other placeholders than {unnamed}"
     for text in shown["placeholders"]:
         other = "$elsewhere" if text.startswith("$") else "elsewhere"
-        put = {text: other}
-        moved = {"client": put.get(shown["client"], shown["client"]),
-                 "user": put.get(shown["user"], shown["user"]),
-                 "topic": "/".join(put.get(level, level) for level in shown["topic"].split("/"))}
-        for fault in faults_of_shown(rules, {**shown, **moved}, old, new):
+        for fault in faults_of_shown(rules, moved(rules, shown, text, other), old, new):
             yield f"with {other} for {text} {fault}"
 
 

@@ -15,13 +15,11 @@ import json_tables  # noqa: E402
 DEFINED = {
     "line": [("mq_print/specs/Objects.antt", "line_data")],
     "limit": [("mq_ask/specs/Objects.antt", "limit_text")],
-    "not_asked": [("mq_ask/specs/Objects.antt", "not_asked_text")],
     "refused": [("mq_ask/specs/Objects.antt", "refused_text")],
     "difference": [("mq_ask_compare/specs/Changed.antt", "change_members")],
     "verdict": [("mq_ask_why/specs/Explained.antt", "verdict_members"),
                 ("mq_ask_why/specs/Explained.antt", "with_refused")],
     "remark": [("mq_ask_lint/specs/Objects.antt", "said_members")],
-    "limit_of_file": [("mq_ask_lint/specs/Objects.antt", "limited_text")],
     "reached": [("mq_ask_reach/specs/Objects.antt", "topic_members")],
     "reached_by_any": [("mq_ask_who/specs/AnyShown.antt", "any_members")],
     "unreached": [("mq_ask_reach/specs/Objects.antt", "subscription_members")],

@@ -1,7 +1,8 @@
 """The words in which mqroute-acl answers why, reach, lint, test and who, made of what it says as
 JSON: each has its client, its topic and its lines in their places (random_lists.py)."""
-from plain_lists import STATES
-from worded_differences import LIMIT, side, topic, whom
+from plain_lists import LIMITED_TO
+from shown_differences import known_in, texts_of
+from worded_differences import side, topic, whom
 
 REFUSED = {
     "read": "mosquitto lets no client read topics that begin with $share, whatever the list says",
@@ -55,17 +56,17 @@ def reach_words(rows, client, user, shown):
 
 
 def limit_words(rules):
-    return "" if rules.words else LIMIT
+    return "" if rules.words else f"the answer is for {LIMITED_TO}\n"
 
 
-def any_words(rules, shown):
+def any_words(shown, named):
     user = "no user name" if shown["user"] is None else f"user {shown['user']}"
     text = f"any client id, {user}: {shown['filter']} can be sent "
     if shown["topic"] is None:
         text += "nothing\n"
     else:
-        text += f"{topic(shown)}\n    {line_words(shown['line'])}"
-    return text + limit_words(rules)
+        text += f"{topic(shown, named)}\n    {line_words(shown['line'])}"
+    return text
 
 
 def lint_words(shown):
@@ -75,48 +76,46 @@ def lint_words(shown):
         else f"{one['file']}:{one['line']}: {one['words']}\n    {one['text']}\n" for one in shown)
 
 
-def verdict_of_test(one):
+def verdict_of_test(one, named):
     """A line that doesn't hold, with what shows it: of one list."""
     text = f"{one['file']}:{one['line']}: {one['text']}\n"
     if one["topic"] is None:
-        of_list = f"{one['list']}  " if one["kind"] in ("none may", "unnamed", "not asked") else ""
+        of_list = f"{one['list']}  " if one["kind"] in ("none may", "unnamed") else ""
         return f"{text}    {of_list}{one['words']}\n"
     place, words, several = side(one["list"], one["decided"])
     asked = one["text"].partition(" except ")[0].split()[-1]
     example = "for example " if several and {"+", "#"} & set(asked) else ""
     may = "may" if one["decided"] and " deny " not in one["decided"]["text"] else "may not"
-    return (f"{text}    {may} {one['access']}  {whom([one])}  {example}{topic(one)}\n"
+    return (f"{text}    {may} {one['access']}  {whom([one], named)}  {example}{topic(one, named)}\n"
             f"    {place}  {words}\n")
 
 
-def tested_words(rules, shown):
+def tested_words(rules, shown, named):
     *shown, counts = shown
-    text = "".join(verdict_of_test(one) for one in shown if not one["holds"])
+    text = "".join(verdict_of_test(one, named) for one in shown if not one["holds"])
     whose = "" if rules.words else " by mosquitto's rules"
     return f"{text}{counts['hold']} of {counts['expectations']} hold{whose}\n{limit_words(rules)}"
 
 
 def placeholders_of(rules, rows, wanted, one):
     """The texts of a client and a topic that neither a line nor the filter names."""
-    known = {text for row in rows for text in (row.user, *row.filter.split("/"))}
-    known |= set(wanted.split("/")) | (set() if rules.words else set(STATES.split("/")))
-    return {one["client"], one["user"], *one["topic"].split("/")} - {None} - known
+    return texts_of(rules, one) - known_in(rules, rows) - set(wanted.split("/"))
 
 
 def permission_rows(rules, rows, wanted, shown):
     """What is allowed in rows of those that are shown alike, each with its clients."""
-    several = bool({"+", "#"} & set(wanted))
+    several, named = bool({"+", "#"} & set(wanted)), {row.user for row in rows} - {None}
     gathered = {}
     for one in shown:
         place, words, may_have = side("old.acl", one["line"])
         example = "for example " if several and may_have else ""
-        what = "every topic" if one["every"] else f"{example}{topic(one)}"
+        what = "every topic" if one["every"] else f"{example}{topic(one, named)}"
         row = [(f"may {one['access']}", what, place, words)]
         for other in (other for other in one["not"] if other["line"]):
             place, words, may_have = side("old.acl", other["line"])
             example = "for example " if several and may_have else ""
             unnamed = placeholders_of(rules, rows, wanted, other)  # which JSON doesn't say of these
-            denied = topic(other | {"placeholders": unnamed})
+            denied = topic(other | {"placeholders": unnamed}, named)
             row.append(("", f"but not {example}{denied}", place, words))
         gathered.setdefault(tuple(row), []).append(one)
     return gathered.items()
@@ -129,10 +128,10 @@ def who_words(rules, rows, wanted, shown, last):
     else:
         table = permission_rows(rules, rows, wanted, shown)
         widths = [max(len(line[place]) for row, _ in table for line in row) for place in range(3)]
-        text, before = "", None
+        text, before, named = "", None, {row.user for row in rows} - {None}
         for row, alike in table:
-            text += f"{whom(alike)}\n" if whom(alike) != before else ""
-            before = whom(alike)
+            text += f"{whom(alike, named)}\n" if whom(alike, named) != before else ""
+            before = whom(alike, named)
             for line in row:
                 cells = "  ".join(f"{cell:{width}}" for cell, width in zip(line, widths))
                 text += f"  {cells}  {line[3]}\n"

@@ -158,19 +158,6 @@ class Diagnostics(unittest.TestCase):
                 with self.subTest(program, line=line):
                     self.assertTrue(any(re.fullmatch(pattern(text), line) for text in shown))
 
-    def test_each_note_is_explained(self):
-        """What mqroute-acl notes beside an answer, without what is put in."""
-        noted = (TOP / "docs/mqroute-acl.1").read_text("utf-8").split(".SH NOTES\n")[1].split(
-            "\n.SH")[0].replace("\\-", "-")
-        noted = re.sub(r'" \w+ "', "", noted)
-        source = (TOP / "crates/mq_ask/src/notes.rt").read_text("utf-8")
-        texts = re.findall(r'"([^"\n]*(?:has pattern|the answer is)[^"\n]*)"', source)
-        self.assertEqual(len(texts), 3)
-        for text in texts:
-            for part in re.split(r"\{\w*\}", text.removesuffix("\\n")):
-                with self.subTest(text=part):
-                    self.assertIn(part.strip("() "), noted)
-
     def test_each_kind_of_fault_is_explained(self):
         kinds = re.findall(r"^    (\w+),$", (TOP / "crates/mq_acl/src/fault.rt").read_text(
             "utf-8").split("enum AclKind {")[1].split("\n}")[0], re.M)

@@ -63,8 +63,7 @@ class Topic(unittest.TestCase):
 class Words(unittest.TestCase):
     def preview(self, **more) -> Preview:
         fields = {"users": [], "refused": [], "granted": [], "taken": [], "subscriptions": [],
-                  "remarks": [], "copies": Totals(0, 0, 0, 0, 0, 0, 0), "notes": [],
-                  "not_asked": []}
+                  "remarks": [], "copies": Totals(0, 0, 0, 0, 0, 0, 0)}
         return Preview("old.acl", "new.acl", ["day.log"], "own", None, **fields | more)
 
     def test_shares(self):

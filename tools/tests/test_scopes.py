@@ -88,7 +88,7 @@ class RandomLists(Case):
         published = Counter({topic: self.chance.randint(1, 9)
                              for topic in self.chance.sample(TOPICS, 40)})
         scopes = Scopes(lists, published)
-        rights = lists.rights()[0]
+        rights = lists.rights()
         for right in rights:
             right.scope = scopes.scope(right)
         scopes.exemplify(rights)

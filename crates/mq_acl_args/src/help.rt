@@ -10,11 +10,11 @@ pub(crate) const ABOUT: &str =
 pub(crate) const AFTER_HELP: &str = "\
 An access list is a file in the form of mosquitto.conf(5)'s acl_file. An answer
 is by the rules of mosquitto 2.0, for every client id that a broker can have,
-every user name that it can have or none, and every topic. But compare and lint
-leave out ids and user names with /, + or # if a list has pattern lines; who,
-test and reach --any always leave them out. The answer says so at its end, and a
-user whom a line names is shown as not asked. With --rules own the answer is by
-rules of our own, and leaves out none. A file - is standard input.
+every user name that it can have or none, and every topic. What clients may not
+do is by who and test said of client ids without + and #, and of user names
+without them or in the list; others may do no more, since no pattern line is for
+them. The answer says so at its end. With --rules own the answer is by rules of
+our own, and leaves out none. A file - is standard input.
 
 Exit status:
   0  compare: both lists allow the same, or differ only in the other way than
@@ -24,7 +24,7 @@ Exit status:
      line of EXPECTED holds
   1  the lists differ, lint has a remark, a subscription can receive nothing,
      somebody other than those of --except may, the client may not, or a line of
-     EXPECTED doesn't hold. Where a user isn't asked about: compare, who --except
+     EXPECTED doesn't hold
   2  the arguments aren't understood, an access list can't be opened, read or
      understood, EXPECTED can't be opened or read or expects nothing, a line of
      QUESTIONS asks nothing, a script can't be opened or read or has no command,
@@ -88,7 +88,8 @@ both stands for the rest. It is answered by --rules own alone.
 
 --script SCRIPT counts how many publishes of the script a difference is about at
 most: those to topics that the filters of its lines match, where %c and %u match
-any level. Who publishes and who subscribes doesn't count.
+any level, and by mosquitto's rules several. Who publishes and who subscribes
+doesn't count.
 
 Long lists that overlap in many ways can take long. A step is a look at one line
 for one question, or as much work as that takes. When the steps are spent, there
@@ -104,10 +105,6 @@ With --json each difference is an object with
             which of these, and of the levels of the topic, stand for others
   old, new  the line that decides it, with file, line and text; or null, where
             no line allows it
-and behind them one for each user whom a line names and nothing is asked about
-  not_asked  the user name
-and last, where some client ids and user names are left out, one with
-  limited_to  for which of them the answer is
 With --json and --script it has too
   publishes  how many publishes of the script it is about at most
   topics     how many topics these are to
@@ -159,11 +156,7 @@ With --json each remark is an object with
                     the list (line and text are null)
   other             the number of the line that it repeats, or that makes it
                     needless; or null
-  words             the remark in words
-and behind those on a file, where some client ids and user names are left out, one
-with
-  file              the file
-  limited_to        for which of them the remarks hold";
+  words             the remark in words";
 
 pub(crate) const SUBSCRIBER_HELP: &str = "The client id of the subscriber";
 
@@ -200,8 +193,6 @@ With --json and --any it has too
   line          the line that allows it, with file, line and text, or null
   placeholders  which of client and the levels of the topic stand for others
   user          the user name, or null
-and last, where some client ids and user names are left out, one with
-  limited_to  for which of them the answer is
 With --json and --script each subscription that can receive nothing is an object
 with
   file, line  the script, and the line of its subscribe
@@ -242,7 +233,8 @@ deny lines take away. Those that may nothing are not listed.
 
 --script SCRIPT counts how many publishes of the script each answer is about at
 most: those to topics that FILTER and the filter of the line match, where %c and
-%u match any level. Who publishes and who subscribes doesn't count.
+%u match any level, and by mosquitto's rules several. Who publishes and who
+subscribes doesn't count.
 
 A step is a look at one line for one question, or as much work as that takes.
 When the steps are spent, there is no answer.
@@ -261,10 +253,8 @@ With --json each is an object with
 and behind them one for each direction in which FILTER names topics that
 mosquitto refuses whatever the list says
   refused    read or write
-and one for each user whom a line names and nothing is asked about
-  not_asked  the user name
-and last, where some client ids and user names are left out, one with
-  limited_to  for which of them the answer is
+and last, by mosquitto's rules, one with
+  limited_to  for which client ids and user names the answer is
 With --json and --script each has too
   publishes  how many publishes of the script it is about at most
   topics     how many topics these are to";
@@ -307,17 +297,16 @@ With --json each line of EXPECTED that says something is an object with
   file, line, text  the line
   list              the list that it is tested of, or null
   holds             true or false
-  kind              holds, fails, differs, none may, unnamed, unasked, refused,
-                    not asked, fault, long level, part of a level or no list
+  kind              holds, fails, differs, none may, unnamed, refused, fault,
+                    long level, part of a level or no list
   words             why it doesn't hold, or null
   access, client, user, topic, placeholders
                     the client and the topic for which it doesn't, as compare
                     has them; or null, and no placeholders
-  not_asked         the user about whom nothing is asked, or null
   decided, other    the line that decides there in the list, and in the one
                     that it is compared with, with file, line and text; or null
 and behind them an object has
   expectations      how many such lines there are
   hold              how many of them hold
-and last, where some client ids and user names are left out, one with
-  limited_to  for which of them the answer is";
+and last, by mosquitto's rules, one with
+  limited_to  for which client ids and user names the answer is";

@@ -1,25 +1,17 @@
--- JSON objects for which clients an answer is, and for which it isn't.
+-- JSON objects: for which clients an answer is, and what mosquitto refuses by itself.
 use Rattle.std.specs.Prelude.{ℕ, List, [], codes, if◌then◌else◌}
 use Rattle.std.specs.List.{flat_map}
 use Rattle.mq_acl.specs.declared.access.Direction.{Direction}
 use Rattle.mq_acl.specs.declared.rules.Rules.{Rules}
-use Rattle.mq_ask.specs.Notes.{by_mosquitto}
+use Rattle.mq_ask.specs.Notes.{by_mosquitto, limited_to}
 use Rattle.mq_ask.specs.Words.{access_text}
 use Rattle.serde_json.specs.Data.{no_members, put, string}
 use Rattle.mq_print.specs.Objects.{object_text}
 
--- a user whom a line names, and about whom nothing is asked
-abbrev pub not_asked_text : List ℕ → List ℕ
-not_asked_text user = object_text (put (codes "not_asked") (string user) no_members)
-
--- each of them
-abbrev pub not_asked_texts : List (List ℕ) → List ℕ
-not_asked_texts users = flat_map not_asked_text users
-
 -- the answer is for these clients alone
 abbrev pub limit_text : List ℕ
 limit_text = object_text (put (codes "limited_to")
-    (string (codes "client ids and user names without /, + and #")) no_members)
+    (string limited_to) no_members)
 
 -- by mosquitto's rules it is
 abbrev pub limit_by : Rules → List ℕ

@@ -37,7 +37,6 @@ failure_status (failure.NoExpectation file) = 2
 failure_status (failure.Question file line words) = 2
 failure_status (failure.OfNamed text) = 2
 failure_status (failure.NoUser file user) = 2
-failure_status (failure.UserMark user) = 2
 failure_status failure.NoClient = 2
 failure_status (failure.PlanGaveUp file) = 2
 failure_status failure.PlanRules = 2

@@ -122,9 +122,6 @@ pub enum Failure<'a> {
         file: &'a str,
         user: &'a str,
     },
-    /// By mosquitto's rules nothing is asked about the user.
-    #[error("mqroute-acl: user {0}: by mosquitto's rules nothing is asked about a user whose name holds /, + or #")]
-    UserMark(&'a str),
     /// Each of the 290 texts that are tried for all other client ids is named by a list or the plan.
     #[error("mqroute-acl: the lists and the plan name each of the 290 texts that are tried for other client ids")]
     NoClient,

@@ -3,7 +3,7 @@ use Rattle.std.specs.Fmt.{decimal}
 use Rattle.std.specs.List.{filter_map, fold, join_by, list_any}
 use Rattle.std.specs.Prelude.{ℕ, Bool, true, false, List, [], ◌∷◌, ◌++◌, ◌-◌, Option, None, length}
 use Rattle.std.specs.Prelude.{codes, if◌then◌else◌, nat_lt, string_bytes, take}
-use Rattle.mq_ask_cases.specs.Placeholders.{is_placeholder}
+use Rattle.mq_ask_cases.specs.Placeholders.{has_placeholder}
 use Rattle.mq_differences.specs.Classes.{user_of}
 use Rattle.mq_differences.specs.declared.class.Class.{Class}
 use Rattle.mq_differences.specs.declared.class.Class.TheVariants.{Anonymous, Others, User}
@@ -24,7 +24,7 @@ is_of_none d = is_anonymous d.class
 abbrev pub stands_for_others : Difference → Class → Bool
 stands_for_others d Anonymous = false
 stands_for_others d (User name) = false
-stands_for_others d (Others name) = is_placeholder d (string_bytes name)
+stands_for_others d (Others name) = has_placeholder d (string_bytes name)
 
 -- it is of all user names that no line is for
 abbrev pub is_of_others : Difference → Bool

@@ -10,7 +10,7 @@ ghost use Rattle.mq_ask_cases.specs.Clients.{users_words, who_parts, who_text, w
 ghost use Rattle.mq_ask_cases.specs.Clients.{none_part, others_part, with_parts};
 ghost use Rattle.mq_print.specs.Lists.{lent_texts};
 
-use crate::placeholders::is_placeholder;
+use crate::placeholders::has_placeholder;
 use mq_differences::{Class, Difference, Group};
 use mq_print::{Escape, shown_lines};
 use std::alloc::{AllocError, Global};
@@ -25,12 +25,12 @@ fn is_of_none(difference: &Difference) -> bool
     matches!(difference.class, Class::Anonymous)
 }
 
-// Whether it is of all user names that no line is for: the one that it shows stands for them.
+// Whether it is of user names that no line is for: a level of the one that it shows stands for others.
 fn is_of_others(difference: &Difference) -> bool
     ensures { result ≡ is_of_others difference.now }
 {
     match &difference.class {
-        Class::Others(name) => is_placeholder(difference, name.as_str()),
+        Class::Others(name) => has_placeholder(difference, name.as_str()),
         _ => false,
     }
 }

@@ -1,9 +1,9 @@
 //! How many publishes of a script that is about which is shown.
-use mq_acl::{Owner, Row};
+use mq_acl::{Owner, Row, Rules};
 use mq_differences::Reason;
 use mq_print::Datum;
 use mq_topic::LevelText;
-use mq_traffic::{Publishes, TopicPattern, Traffic};
+use mq_traffic::{Marks, Publishes, TopicPattern, Traffic};
 use std::alloc::{AllocError, Global};
 
 /// The publishes of a script.
@@ -15,9 +15,18 @@ pub struct ScriptTraffic<'a> {
     pub traffic: &'a Traffic,
 }
 
-/// Adds the filter of the line that decides, if one does.
+/// What the marks of a `pattern` line stand for by these rules.
+pub fn marks_of(rules: Rules) -> Marks {
+    match rules {
+        Rules::Own => Marks::Level,
+        Rules::Mosquitto => Marks::Levels,
+    }
+}
+
+/// Adds the filter of the line that decides by these rules, if one does.
 pub fn add_pattern<'a>(
     patterns: &mut Vec<TopicPattern<'a>>,
+    rules: Rules,
     rows: &'a [Row],
     reason: Reason,
 ) -> Result<(), AllocError> {
@@ -29,7 +38,10 @@ pub fn add_pattern<'a>(
     if let Some(row) = rows.get(place) {
         patterns.push(TopicPattern {
             filter: row.filter.text(),
-            has_marks: matches!(row.owner, Owner::Everyone),
+            marks: match row.owner {
+                Owner::Everyone => marks_of(rules),
+                _ => Marks::Plain,
+            },
         })?;
     }
     Ok(())

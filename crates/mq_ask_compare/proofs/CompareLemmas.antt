@@ -2,11 +2,9 @@
 use Rattle.std.proofs.Common.{◌≡◌, ◌⊎◌, ◌<◌, ◌++◌, ◌&&◌, suc, length, arith, ℕ, Bool, true, false, not}
 use Rattle.std.proofs.Common.{List, [], ◌∷◌, Option, Some, None, All, refl, sym, ◌∙◌, string_bytes, true≢false}
 use Rattle.std.proofs.Common.{subst, inl, inr, ap, ◌||◌, ◌≢◌, Ok}
-use Rattle.std.specs.Borrow.{Bor}
 use Rattle.std.specs.List.{list_any}
 use Rattle.std.proofs.lemmas.Bool.{and_parts, false_from_ne_true, or_cases}
 use Rattle.mq_topic.specs.Texts.{is_name}
-use Rattle.mq_topic.proofs.ByteLemmas.{text_itself}
 use Rattle.mq_acl.specs.AccessLists.{allow_by}
 use Rattle.mq_acl.specs.declared.rules.Rules.{Rules}
 use Rattle.mq_acl.specs.Rows.{AclRow}
@@ -14,10 +12,9 @@ use Rattle.mq_acl.specs.Views.{row_views}
 use Rattle.mq_acl.specs.declared.access.Direction.{Direction}
 use Rattle.mq_acl.specs.declared.row.Row.{Row}
 use Rattle.mq_witness.specs.Clients.{can_be_id}
-use Rattle.mq_witness.specs.Ruled.{are_asked_of}
 use Rattle.mq_differences.specs.Classes.{can_be_user, user_of}
 use Rattle.mq_differences.specs.Classes.{is_in}
-use Rattle.mq_differences.specs.Differences.{is_change, is_compared, is_shown_of, IsReal, same_way}
+use Rattle.mq_differences.specs.Differences.{is_change, is_shown_of, IsReal, same_way}
 use Rattle.mq_differences.specs.Differences.{ShowsAll}
 use Rattle.mq_differences.specs.Differences.{same_direction, same_reason, same_start}
 use Rattle.mq_differences.specs.Reasons.{reason_of}
@@ -26,12 +23,10 @@ use Rattle.mq_differences.specs.declared.difference.Difference.{Difference}
 use Rattle.mq_differences.specs.declared.way.Way.{Way}
 use Rattle.mq_differences.specs.declared.way.Way.TheVariants.{Gained, Lost}
 use Rattle.mq_who.proofs.ExtentLemmas.{any_weaker}
-use Rattle.mq_who.specs.Unasked.{has_text, is_not_compared}
 use Rattle.mq_ask_cases.proofs.WayLemmas.{way_is}
-use Rattle.mq_ask_compare.specs.Compare.{AreChanges, AreLimited, Differ, IsCompared, LeavesNoneOut}
-use Rattle.mq_ask_compare.specs.Compare.{are_limited}
+use Rattle.mq_ask_compare.specs.Compare.{AreChanges, Differ, IsCompared}
 use Rattle.mq_ask.specs.Lists.{IsTaken}
-use Rattle.mq_ask_compare.specs.Compare.{LeavesOut, NoneChanges, SomeChanges}
+use Rattle.mq_ask_compare.specs.Compare.{NoneChanges, SomeChanges}
 use Rattle.mq_ask_compare.specs.Compare.{SaysWhetherSame}
 use Rattle.mq_ask_cases.specs.Ways.{is_way}
 use Rattle.mq_ask_compare.specs.declared.compare.Changes.{Changes}
@@ -132,64 +127,27 @@ of_way rules old new way direction client user name d is =
 none_changes : (rules : Rules) (way : Way) (old new : List Row) (all : List Difference)
     → ShowsAll rules old new all → list_any (λ d. is_way (Some way) d.way) all ≡ false
     → NoneChanges rules way (row_views old) (row_views new)
-none_changes rules way old new all every none client name user direction asked valid =
-    let id = and_parts (can_be_id client)
-    (can_be_user user && are_asked_of rules (row_views old ++ row_views new) client user) asked in
-    let rest = and_parts (can_be_user user)
-    (are_asked_of rules (row_views old ++ row_views new) client user) id.1 in
+none_changes rules way old new all every none client name user direction id fits valid =
     false_from_ne_true (is_change rules way (row_views old) (row_views new) client user name direction)
     (λ changes. true≢false (sym (any_weaker
     (is_shown_of rules old new way direction client user name) (λ d. is_way (Some way) d.way)
     (of_way rules old new way direction client user name) all
-    (every way direction client name user id.0 rest.0 rest.1 valid changes)) ∙ none))
+    (every way direction client name user id fits valid changes)) ∙ none))
 
--- ---- users about whom nothing is asked
--- one of them is
-some_user : (users : List (Bor (List ℕ))) → users ≢ []
-    → (name : List ℕ) × (has_text users name ≡ true)
-some_user [] some = absurd (some refl)
-some_user (user ∷ users) some =
-    (user.now, ap (λ b. b || has_text users user.now) (text_itself user.now))
-
--- whether there is a difference that is asked about, or a user about whom nothing is asked, shows whether the lists allow
--- the same, or one of them nothing that the other doesn't
-module _ (rules : Rules) (c : Changes) (old new : List ℕ) (are : AreChanges rules old new c)
-    (users : List (Bor (List ℕ)))
-    (is : (name : List ℕ) → has_text users name
-    ≡ is_not_compared rules (row_views c.old.items ++ row_views c.new.items) name) where
-  leaves_none : users ≡ [] → LeavesNoneOut rules (row_views c.old.items) (row_views c.new.items)
-  leaves_none none name = sym (is name) ∙ ap (λ all. has_text all name) none
-
-  leaves_one : users ≢ [] → LeavesOut rules (row_views c.old.items) (row_views c.new.items)
-  leaves_one some =
-      let user = some_user users some in (user.0, sym (is user.0) ∙ user.1)
-
+-- whether there is a difference that is asked about shows whether the lists allow the same, or one of them nothing that the
+-- other doesn't
+module _ (rules : Rules) (c : Changes) (old new : List ℕ) (are : AreChanges rules old new c) where
   pub shown : (only : Option Way) (outcome : Outcome)
-      → (outcome ≡ Clear
-      → (list_any (λ d. is_way only d.way) c.differences.items ≡ false) × (users ≡ []))
-      → (outcome ≡ Remark
-      → (list_any (λ d. is_way only d.way) c.differences.items ≡ true) ⊎ (users ≢ []))
+      → (outcome ≡ Clear → list_any (λ d. is_way only d.way) c.differences.items ≡ false)
+      → (outcome ≡ Remark → list_any (λ d. is_way only d.way) c.differences.items ≡ true)
       → SaysWhetherSame rules only (row_views c.old.items) (row_views c.new.items) outcome
-  shown None Clear none some =
-      (are.same (none_shown c.differences.items (none refl).0), leaves_none (none refl).1)
-  shown (Some way) Clear none some = (
-    none_changes rules way c.old.items c.new.items c.differences.items are.every (none refl).0,
-    leaves_none (none refl).1,
-  )
-  shown None Remark none some = at (some refl)
-    where
-      at : (list_any (λ d. is_way None d.way) c.differences.items ≡ true) ⊎ (users ≢ [])
-          → SaysWhetherSame rules None (row_views c.old.items) (row_views c.new.items) Remark
-      at (inl one) =
-          inl (differ_of rules c.old.items c.new.items c.differences.items one are.real)
-      at (inr user) = inr (leaves_one user)
-  shown (Some way) Remark none some = at (some refl)
-    where
-      at : (list_any (λ d. is_way (Some way) d.way) c.differences.items ≡ true) ⊎ (users ≢ [])
-          → SaysWhetherSame rules (Some way) (row_views c.old.items) (row_views c.new.items) Remark
-      at (inl one) =
-          inl (changes_of rules way c.old.items c.new.items c.differences.items one are.real)
-      at (inr user) = inr (leaves_one user)
+  shown None Clear none some = are.same (none_shown c.differences.items (none refl))
+  shown (Some way) Clear none some =
+      none_changes rules way c.old.items c.new.items c.differences.items are.every (none refl)
+  shown None Remark none some =
+      differ_of rules c.old.items c.new.items c.differences.items (some refl) are.real
+  shown (Some way) Remark none some =
+      changes_of rules way c.old.items c.new.items c.differences.items (some refl) are.real
 
 pub compared : (rules : Rules) (only : Option Way) (old new : List ℕ) (c : Changes)
     (outcome : Outcome) → AreChanges rules old new c → IsTaken old → IsTaken new
@@ -208,28 +166,10 @@ compared rules only old new c outcome are old_taken new_taken says = record {
 -- lists of which no difference is shown allow the same
 pub allow_same : (rules : Rules) (old new : List Row)
     → ((client topic : List ℕ) (user : Option (List ℕ)) (direction : Direction)
-    → can_be_id client ≡ true → can_be_user user ≡ true
-    → is_compared rules old new client user ≡ true → is_name topic ≡ true
+    → can_be_id client ≡ true → can_be_user user ≡ true → is_name topic ≡ true
     → allow_by rules (row_views old) client user topic direction
     ≡ allow_by rules (row_views new) client user topic direction)
-    → AllowSame rules (row_views old ++ row_views new) (row_views old) (row_views new)
+    → AllowSame rules (row_views old) (row_views new)
 allow_same rules old new same client name user direction asked valid =
-    let id = and_parts (can_be_id client)
-    (can_be_user user && are_asked_of rules (row_views old ++ row_views new) client user) asked in
-    let rest = and_parts (can_be_user user)
-    (are_asked_of rules (row_views old ++ row_views new) client user) id.1 in
-    same client name user direction id.0 rest.0 rest.1 valid
-
--- where the lists with these texts leave names out, so do their rows
-pub limited_of : (rules : Rules) (old new : List ℕ) (c : Changes) → AreChanges rules old new c
-    → AreLimited rules old new
-    → are_limited rules (row_views c.old.items) (row_views c.new.items) ≡ true
-limited_of rules old new c are limited =
-    let olds : row_views c.old.items ≡ limited.old_rows =
-    (let both : Ok (row_views c.old.items) ≡ Ok limited.old_rows =
-    sym are.old_rows.read ∙ limited.old_read in cc) in
-    let news : row_views c.new.items ≡ limited.new_rows =
-    (let both : Ok (row_views c.new.items) ≡ Ok limited.new_rows =
-    sym are.new_rows.read ∙ limited.new_read in cc) in
-    ap (λ (rows : List AclRow). are_limited rules rows (row_views c.new.items)) olds
-    ∙ ap (are_limited rules limited.old_rows) news ∙ limited.limited
+    let both = and_parts (can_be_id client) (can_be_user user) asked in
+    same client name user direction both.0 both.1 valid

@@ -9,7 +9,7 @@ use Rattle.mq_ask_cases.specs.ChangeRows.{ChangeView, change_view}
 use Rattle.mq_ask_cases.specs.declared.change_rows.ChangeRow.{ChangeRow}
 use Rattle.mq_ask_compare.specs.Worded.{AreRowsOf, IsRow, IsWorded, SaysSame, ScopeView}
 use Rattle.mq_ask_compare.specs.Worded.{ShowsDifferences, ShowsGroups, every_word, extent_words}
-use Rattle.mq_ask_compare.specs.Worded.{nothing_words, which_words}
+use Rattle.mq_ask_compare.specs.Worded.{nothing_words}
 use Rattle.mq_differences.specs.declared.difference.Difference.{Difference}
 use Rattle.mq_differences.specs.declared.group.Group.{Group}
 use Rattle.mq_differences.specs.declared.way.Way.{Way}
@@ -51,23 +51,12 @@ pub allows_nothing : (text one other after : List ℕ)
     → after ≡ text ++ nothing_words one other
 allows_nothing text one other after added = simp append_assoc added
 
-extent_parts : (text every which after : List ℕ)
+pub extent_is : (text every after : List ℕ) (only : Option Way) → every ≡ every_word only
     → after ≡ text ++ (codes ", on " ++ (every ++ (codes " topic, to " ++ (every
-    ++ (codes " client id and user name" ++ (which ++ codes " a broker can have"))))))
-    → after ≡ text ++ (codes ", on " ++ every ++ codes " topic, to " ++ every
-    ++ codes " client id and user name" ++ which ++ codes " a broker can have")
-extent_parts text every which after added = simp append_assoc added
-
-pub extent_is : (text every which after : List ℕ) (only : Option Way) (limited : Bool)
-    → every ≡ every_word only → which ≡ which_words limited
-    → after ≡ text ++ (codes ", on " ++ (every ++ (codes " topic, to " ++ (every
-    ++ (codes " client id and user name" ++ (which ++ codes " a broker can have"))))))
-    → after ≡ text ++ extent_words (every_word only) limited
-extent_is text every which after only limited all of_some added =
-    subst (λ (w : List ℕ). after ≡ text ++ extent_words w limited) all
-    (subst (λ (w : List ℕ). after ≡ text ++ (codes ", on " ++ every ++ codes " topic, to "
-    ++ every ++ codes " client id and user name" ++ w ++ codes " a broker can have")) of_some
-    (extent_parts text every which after added))
+    ++ codes " client id and user name a broker can have"))))
+    → after ≡ text ++ extent_words (every_word only)
+extent_is text every after only all added =
+    subst (λ (w : List ℕ). after ≡ text ++ extent_words w) all (simp append_assoc added)
 
 -- ---- all of it
 -- so many are none, or some
@@ -107,24 +96,19 @@ groups_same scope old new old_lines new_lines groups gs text olds news same show
     all text) same shows))
 
 -- and of the same scope
-pub scope_same : (rules : Rules) (only : Option Way) (limited short : Bool)
-    (users all : List (List ℕ)) (script file : Option (List ℕ)) (coloured : Bool)
-    (old new : ListView) (ds es : List Difference) (text : List ℕ) → limited ≡ short → users ≡ all
+pub scope_same : (rules : Rules) (only : Option Way) (script file : Option (List ℕ))
+    (coloured : Bool) (old new : ListView) (ds es : List Difference) (text : List ℕ)
     → script ≡ file → ds ≡ es
     → IsWorded (record {
       rules = rules;
       only = only;
-      is_limited = limited;
-      users = users;
       script = script;
       coloured = coloured;
     }) old new ds text → IsWorded (record {
       rules = rules;
       only = only;
-      is_limited = short;
-      users = all;
       script = file;
       coloured = coloured;
     }) old new es text
-scope_same rules only limited short users all script file coloured old new ds es text is are named
-    same worded = rw (← is, ← are, ← named, ← same) worded
+scope_same rules only script file coloured old new ds es text named same worded =
+    rw (← named, ← same) worded

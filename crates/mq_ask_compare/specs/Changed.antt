@@ -1,24 +1,19 @@
 -- Where two lists differ, as JSON: an object for each difference.
 use Rattle.std.specs.Io.KnownBytes.{Appends}
 use Rattle.std.specs.List.{filter, flat_map}
-use denote.Ref.{Bor}
 use Rattle.std.specs.Prelude.{◌≡◌, ◌++◌, ℕ, List, [], Option, codes, map, string_bytes}
-use Rattle.std.specs.Prelude.{if◌then◌else◌}
-use Rattle.mq_acl.specs.Views.{row_views}
 use Rattle.mq_acl.specs.declared.rules.Rules.{Rules}
-use Rattle.mq_ask.specs.Objects.{limit_text, not_asked_texts}
 use Rattle.mq_ask.specs.Words.{access_text}
 use Rattle.mq_ask_cases.specs.Ways.{is_way, way_text}
-use Rattle.mq_ask_compare.specs.Compare.{AreChanges, are_limited}
+use Rattle.mq_ask_compare.specs.Compare.{AreChanges}
 use Rattle.mq_ask_compare.specs.declared.compare.Changes.{Changes}
 use Rattle.mq_differences.specs.Classes.{user_of}
 use Rattle.mq_differences.specs.Reasons.{deciding_line}
 use Rattle.mq_differences.specs.declared.difference.Difference.{Difference}
 use Rattle.mq_differences.specs.declared.way.Way.{Way}
-use Rattle.mq_print.specs.Lists.{ListView, lent_texts, list_view, shown_line}
+use Rattle.mq_print.specs.Lists.{ListView, list_view, shown_line}
 use Rattle.mq_print.specs.Objects.{line_data, object_text, text_data}
 use Rattle.mq_print.specs.declared.list.ListText.{ListText}
-use Rattle.mq_who.specs.Unasked.{has_text, is_not_compared}
 use Rattle.serde_json.specs.Data.{Members, array, no_members, put, string}
 use Rattle.serde_json.specs.View.{items_of}
 
@@ -38,20 +33,15 @@ change_members old new d =
 abbrev pub change_text : (old new : ListView) → Difference → List ℕ
 change_text old new d = object_text (change_members old new d)
 
--- an object for each difference, and behind them one for each user about whom nothing is asked
-abbrev pub changes_text : (old new : ListView) → List Difference → (users : List (List ℕ)) → List ℕ
-changes_text old new ds users = flat_map (change_text old new) ds ++ not_asked_texts users
+-- an object for each difference
+abbrev pub changes_text : (old new : ListView) → List Difference → List ℕ
+changes_text old new ds = flat_map (change_text old new) ds
 
--- the text of all differences that are asked about, and last for which clients they are, where others are left out
-pub record AreObjects (rules : Rules) (only : Option Way) (old new : ListView) (changes : Changes)
-    (text : List ℕ) : Type 0 where
-  pub users : List (Bor (List ℕ))
-  pub users_are : (name : List ℕ) → has_text users name ≡ is_not_compared rules
-      (row_views changes.old.items ++ row_views changes.new.items) name
-  pub text_is : text ≡ changes_text old new
-      (filter (λ d. is_way only d.way) changes.differences.items) (lent_texts users)
-      ++ (if are_limited rules (row_views changes.old.items) (row_views changes.new.items)
-      then limit_text else [])
+-- the text of all differences that are asked about
+abbrev pub AreObjects : (only : Option Way) → (old new : ListView) → Changes → (text : List ℕ)
+    → Type 0
+AreObjects only old new changes text =
+    text ≡ changes_text old new (filter (λ d. is_way only d.way) changes.differences.items)
 
 -- what is written is that of lists with these texts
 pub record AreShown (rules : Rules) (only : Option Way) (old new : ListText)
@@ -59,5 +49,5 @@ pub record AreShown (rules : Rules) (only : Option Way) (old new : ListText)
   pub changes : Changes
   pub are : AreChanges rules old.text.now new.text.now changes
   pub text : List ℕ
-  pub objects : AreObjects rules only (list_view old) (list_view new) changes text
+  pub objects : AreObjects only (list_view old) (list_view new) changes text
   pub written : Appends before after text

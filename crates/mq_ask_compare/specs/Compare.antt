@@ -9,7 +9,6 @@ use Rattle.mq_acl.specs.declared.row.Row.{Row}
 use Rattle.mq_acl.specs.declared.rules.Rules.{Rules}
 use Rattle.mq_ask.specs.Failures.{IsListFailure, IsRowLine}
 use Rattle.mq_ask.specs.Lists.{AreRows, IsTaken}
-use Rattle.mq_ask.specs.Notes.{by_mosquitto}
 use Rattle.mq_ask.specs.declared.failure.Failure.{Failure}
 use Rattle.mq_ask.specs.declared.failure.Failure.TheVariants as failure
 use Rattle.mq_print.specs.declared.list.ListText.{ListText}
@@ -20,14 +19,12 @@ use Rattle.mq_differences.specs.Classes.{can_be_user}
 use Rattle.mq_differences.specs.Differences.{AreApart, AreMarked, IsReal, ShowsAll, is_change}
 use Rattle.mq_differences.specs.Steps.{enough_steps}
 use Rattle.mq_differences.specs.declared.way.Way.{Way}
-use Rattle.mq_lint.specs.Needless.{AllowSame, is_asked}
+use Rattle.mq_lint.specs.Needless.{AllowSame}
 use Rattle.mq_topic.specs.Texts.{is_name}
-use Rattle.mq_who.specs.Unasked.{is_not_compared}
 use Rattle.mq_witness.specs.Clients.{can_be_id}
-use Rattle.mq_witness.specs.Ruled.{has_patterns}
 
 -- the lists with these texts differ so by these rules, and not otherwise: all that changes for a client
--- that a broker can have, and that is asked about, is shown, and once
+-- that a broker can have is shown, and once
 pub record AreChanges (rules : Rules) (old new : List ℕ) (c : Changes) : Type 0 where
   pub old_rows : AreRows rules old c.old.items
   pub new_rows : AreRows rules new c.new.items
@@ -35,9 +32,8 @@ pub record AreChanges (rules : Rules) (old new : List ℕ) (c : Changes) : Type 
   pub real : All (IsReal rules c.old.items c.new.items) c.differences.items
   pub once : AreApart c.differences.items
   pub marked : AreMarked rules c.old.items c.new.items c.differences.items
-  pub same : c.differences.items ≡ [] → AllowSame rules
-      (row_views c.old.items ++ row_views c.new.items) (row_views c.old.items)
-      (row_views c.new.items)
+  pub same : c.differences.items ≡ []
+      → AllowSame rules (row_views c.old.items) (row_views c.new.items)
 
 -- some client that a broker can have may do by the one list what it may not by the other
 pub record Differ (rules : Rules) (old new : List AclRow) : Type 0 where
@@ -51,19 +47,10 @@ pub record Differ (rules : Rules) (old new : List AclRow) : Type 0 where
   pub differs : allow_by rules old client user name direction
       ≢ allow_by rules new client user name direction
 
--- each user whom a row of the lists names is compared
-abbrev pub LeavesNoneOut : Rules → (old new : List AclRow) → Type 0
-LeavesNoneOut rules old new =
-    (name : List ℕ) → is_not_compared rules (old ++ new) name ≡ false
-
--- or one isn't
-abbrev pub LeavesOut : Rules → (old new : List AclRow) → Type 0
-LeavesOut rules old new = (name : List ℕ) × (is_not_compared rules (old ++ new) name ≡ true)
-
--- nothing changes in this way for the clients that a broker can have, and that are asked about
+-- nothing changes in this way for the clients that a broker can have
 abbrev pub NoneChanges : Rules → Way → (old new : List AclRow) → Type 0
 NoneChanges rules way old new = (client name : List ℕ) (user : Option (List ℕ))
-    (direction : Direction) → is_asked rules (old ++ new) client user ≡ true
+    (direction : Direction) → can_be_id client ≡ true → can_be_user user ≡ true
     → is_name name ≡ true → is_change rules way old new client user name direction ≡ false
 
 -- or something does for one of them
@@ -77,17 +64,14 @@ pub record SomeChanges (rules : Rules) (way : Way) (old new : List AclRow) : Typ
   pub valid : is_name name ≡ true
   pub changes : is_change rules way old new client user name direction ≡ true
 
--- whether the rows allow the same to the clients that a broker can have, and that are asked about, is shown; or whether
--- one list allows nothing that the other doesn't. Where nothing is to be remarked, no user whom a row names is left out
+-- whether the rows allow the same to the clients that a broker can have is shown; or whether one list
+-- allows nothing that the other doesn't
 abbrev pub SaysWhetherSame : Rules → (only : Option Way) → (old new : List AclRow) → Outcome
     → Type 0
-SaysWhetherSame rules None old new Clear =
-    AllowSame rules (old ++ new) old new × LeavesNoneOut rules old new
-SaysWhetherSame rules None old new Remark = Differ rules old new ⊎ LeavesOut rules old new
-SaysWhetherSame rules (Some way) old new Clear =
-    NoneChanges rules way old new × LeavesNoneOut rules old new
-SaysWhetherSame rules (Some way) old new Remark =
-    SomeChanges rules way old new ⊎ LeavesOut rules old new
+SaysWhetherSame rules None old new Clear = AllowSame rules old new
+SaysWhetherSame rules None old new Remark = Differ rules old new
+SaysWhetherSame rules (Some way) old new Clear = NoneChanges rules way old new
+SaysWhetherSame rules (Some way) old new Remark = SomeChanges rules way old new
 
 -- and so is it of the lists with these texts, which mosquitto takes
 pub record IsCompared (rules : Rules) (only : Option Way) (old new : List ℕ)
@@ -99,19 +83,6 @@ pub record IsCompared (rules : Rules) (only : Option Way) (old new : List ℕ)
   pub old_read : rows_by rules old ≡ Ok old_rows
   pub new_read : rows_by rules new ≡ Ok new_rows
   pub outcome_of : SaysWhetherSame rules only old_rows new_rows outcome
-
--- by mosquitto's rules one of the lists has a `pattern` row: client ids and user names are left out
-abbrev pub are_limited : Rules → (old new : List AclRow) → Bool
-are_limited rules old new =
-    (by_mosquitto rules && has_patterns old) || (by_mosquitto rules && has_patterns new)
-
--- and so it is of the lists with these texts
-pub record AreLimited (rules : Rules) (old new : List ℕ) : Type 0 where
-  pub old_rows : List AclRow
-  pub new_rows : List AclRow
-  pub old_read : rows_by rules old ≡ Ok old_rows
-  pub new_read : rows_by rules new ≡ Ok new_rows
-  pub limited : are_limited rules old_rows new_rows ≡ true
 
 -- so many steps didn't suffice to know what a row of one of the lists changes; more are enough
 abbrev pub IsGivenUpOfTwo : Rules → (old new : ListText) → (steps : ℕ) → Failure → Type 0

@@ -4,12 +4,9 @@ use Rattle.std.specs.Io.KnownBytes.{Appends}
 use Rattle.std.specs.List.{filter}
 use Rattle.std.specs.Option.{option_map}
 use Rattle.std.specs.Prelude.{◌≡◌, ◌++◌, ℕ, Bool, true, List, [], ◌∷◌, Option, None, Some}
-use Rattle.std.specs.Prelude.{codes, if◌then◌else◌, length}
-use denote.Ref.{Bor}
-use Rattle.mq_acl.specs.Views.{row_views}
+use Rattle.std.specs.Prelude.{codes, length}
 use Rattle.mq_acl.specs.declared.rules.Rules.{Rules}
 use Rattle.mq_acl.specs.declared.rules.Rules.TheVariants.{Own, Mosquitto}
-use Rattle.mq_ask.specs.Notes.{limit_line, not_asked_lines}
 use Rattle.mq_ask.specs.Words.{owner_words}
 use Rattle.mq_ask_cases.specs.ChangeRows.{ChangeView, table_text}
 use Rattle.mq_ask_cases.specs.Clients.{group_text}
@@ -17,7 +14,7 @@ use Rattle.mq_ask_cases.specs.Deciding.{decision}
 use Rattle.mq_ask_cases.specs.Placeholders.{IsShownTopic}
 use Rattle.mq_ask_cases.specs.Ways.{is_way, rows_word}
 use Rattle.mq_ask_cases.specs.declared.published.ScriptTraffic.{ScriptTraffic}
-use Rattle.mq_ask_compare.specs.Compare.{AreChanges, are_limited}
+use Rattle.mq_ask_compare.specs.Compare.{AreChanges}
 use Rattle.mq_ask_compare.specs.declared.changes.ComparedTraffic.{ComparedTraffic}
 use Rattle.mq_ask_compare.specs.declared.changes.Scope.{Scope}
 use Rattle.mq_ask_compare.specs.declared.compare.Changes.{Changes}
@@ -26,23 +23,19 @@ use Rattle.mq_differences.specs.declared.difference.Difference.{Difference}
 use Rattle.mq_differences.specs.declared.group.Group.{Group}
 use Rattle.mq_differences.specs.declared.way.Way.{Way}
 use Rattle.mq_differences.specs.declared.way.Way.TheVariants.{Gained, Lost}
-use Rattle.mq_print.specs.Lists.{ListView, lent_texts, list_view}
+use Rattle.mq_print.specs.Lists.{ListView, list_view}
 use Rattle.mq_print.specs.Shown.{shown}
 use Rattle.mq_print.specs.declared.escape.Escape.TheVariants.{Words}
 use Rattle.mq_print.specs.declared.list.ListText.{ListText}
-use Rattle.mq_who.specs.Unasked.{has_text, is_not_compared}
 
 -- the script whose publishes are counted, if one is given
 abbrev pub script_file : Option ComparedTraffic → Option (List ℕ)
 script_file traffic = option_map (λ t. t.script.file.now) traffic
 
--- by whose rules lists were compared, and for whom: the users about whom nothing is asked, and the
--- script, if one is given
+-- by whose rules lists were compared, which way alone is shown, and the script, if one is given
 pub record ScopeView : Type 0 where
   pub rules : Rules
   pub only : Option Way
-  pub is_limited : Bool
-  pub users : List (List ℕ)
   pub script : Option (List ℕ)
   pub coloured : Bool
 
@@ -50,8 +43,6 @@ abbrev pub scope_view : Scope → ScopeView
 scope_view scope = record {
   rules = scope.rules;
   only = scope.only;
-  is_limited = scope.is_limited;
-  users = lent_texts scope.not_asked.now;
   script = script_file scope.traffic;
   coloured = scope.coloured;
 }
@@ -88,17 +79,13 @@ abbrev pub count_line : Rules → (only : Option Way) → (count : ℕ) → List
 count_line rules only count =
     decimal count ++ codes " " ++ rows_word count only ++ rules_words rules ++ 10 ∷ []
 
--- behind a text stands about which users nothing is asked
-abbrev pub SaysUsers : (users : List (List ℕ)) → (before after : List ℕ) → Type 0
-SaysUsers users before after = after ≡ before ++ shown true Words (not_asked_lines users)
-
--- a table of the groups, how many rows it has, and the users about whom nothing is asked
+-- a table of the groups, and how many rows it has
 pub record ShowsGroups (scope : ScopeView) (old new : ListView) (groups : List Group)
     (text : List ℕ) : Type 0 where
   pub rows : List ChangeView
   pub are : AreRowsOf scope.script old new groups rows
-  pub text_is : SaysUsers scope.users
-      (table_text scope.coloured rows ++ count_line scope.rules scope.only (length rows)) text
+  pub text_is : text
+      ≡ table_text scope.coloured rows ++ count_line scope.rules scope.only (length rows)
 
 -- the groups are those of the differences
 pub record ShowsDifferences (scope : ScopeView) (old new : ListView)
@@ -123,25 +110,18 @@ abbrev pub every_word : (only : Option Way) → List ℕ
 every_word None = codes "every"
 every_word (Some way) = codes "any"
 
--- for which alone, where others are left out
-abbrev pub which_words : (is_limited : Bool) → List ℕ
-which_words is_limited = if is_limited then codes " without /, + and # that" else []
-
 -- for which topics and clients
-abbrev pub extent_words : (every : List ℕ) → (is_limited : Bool) → List ℕ
-extent_words every is_limited = codes ", on " ++ every ++ codes " topic, to " ++ every
-    ++ codes " client id and user name" ++ which_words is_limited ++ codes " a broker can have"
+abbrev pub extent_words : (every : List ℕ) → List ℕ
+extent_words every = codes ", on " ++ every ++ codes " topic, to " ++ every
+    ++ codes " client id and user name a broker can have"
 
 -- that the lists don't differ, or not in the way that is asked about
 abbrev pub same_line : ScopeView → (old new : List ℕ) → List ℕ
 same_line scope old new = codes "by " ++ owner_words scope.rules ++ codes " rules "
-    ++ same_words scope.only old new ++ extent_words (every_word scope.only) scope.is_limited
-    ++ 10 ∷ []
+    ++ same_words scope.only old new ++ extent_words (every_word scope.only) ++ 10 ∷ []
 
--- that nothing differs, and the users about whom nothing is asked
 abbrev pub SaysSame : ScopeView → (old new text : List ℕ) → Type 0
-SaysSame scope old new text =
-    SaysUsers scope.users (shown true Words (same_line scope old new)) text
+SaysSame scope old new text = text ≡ shown true Words (same_line scope old new)
 
 -- these differences in words
 abbrev pub IsWorded : ScopeView → (old new : ListView) → List Difference → (text : List ℕ)
@@ -151,31 +131,20 @@ IsWorded scope old new (d ∷ ds) text = ShowsDifferences scope old new (d ∷ d
 
 -- how the differences that are asked about are shown
 abbrev pub asked_scope : Rules → (only : Option Way) → (script : Option ScriptTraffic)
-    → (coloured : Bool) → Changes → (users : List (Bor (List ℕ))) → ScopeView
-asked_scope rules only script coloured changes users = record {
+    → (coloured : Bool) → ScopeView
+asked_scope rules only script coloured = record {
   rules = rules;
   only = only;
-  is_limited = are_limited rules (row_views changes.old.items) (row_views changes.new.items);
-  users = lent_texts users;
   script = option_map (λ s. s.file.now) script;
   coloured = coloured;
 }
 
--- for which clients it is, where others are left out
-abbrev pub limit_words : (is_limited : Bool) → List ℕ
-limit_words is_limited = if is_limited then limit_line else []
-
--- the differences that are asked about, and last for which clients they are
-pub record AreWords (rules : Rules) (only : Option Way) (script : Option ScriptTraffic)
-    (coloured : Bool) (old new : ListView) (changes : Changes) (text : List ℕ) : Type 0 where
-  pub users : List (Bor (List ℕ))
-  pub users_are : (name : List ℕ) → has_text users name ≡ is_not_compared rules
-      (row_views changes.old.items ++ row_views changes.new.items) name
-  pub words : List ℕ
-  pub are : IsWorded (asked_scope rules only script coloured changes users) old new
-      (filter (λ d. is_way only d.way) changes.differences.items) words
-  pub text_is : text ≡ words ++ limit_words
-      (are_limited rules (row_views changes.old.items) (row_views changes.new.items))
+-- the differences that are asked about
+abbrev pub AreWords : Rules → (only : Option Way) → (script : Option ScriptTraffic)
+    → (coloured : Bool) → (old new : ListView) → Changes → (text : List ℕ) → Type 0
+AreWords rules only script coloured old new changes text =
+    IsWorded (asked_scope rules only script coloured) old new
+    (filter (λ d. is_way only d.way) changes.differences.items) text
 
 -- what is written is that of lists with these texts
 pub record AreWorded (rules : Rules) (only : Option Way) (script : Option ScriptTraffic)

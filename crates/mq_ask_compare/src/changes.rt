@@ -4,15 +4,15 @@ ghost use Rattle.std.specs.Prelude.{◌≡◌, ◌++◌, IfOk, None, OnOk, false
 ghost use Rattle.std.specs.Option.{option_map};
 ghost use Rattle.mq_ask_cases.specs.ChangeRows.{change_view, publishes_view};
 ghost use Rattle.mq_ask_compare.specs.Changed.{change_text, changes_text};
-ghost use Rattle.mq_ask_compare.specs.Worded.{AreRowsOf, IsRow, IsWorded, SaysSame, SaysUsers};
+ghost use Rattle.mq_ask_compare.specs.Worded.{AreRowsOf, IsRow, IsWorded, SaysSame};
 ghost use Rattle.mq_ask_compare.specs.Worded.{ShowsGroups, count_line, every_word, extent_words};
 ghost use Rattle.mq_ask_compare.specs.Worded.{nothing_words, rules_words};
 ghost use Rattle.mq_ask_compare.specs.Worded.{same_line, same_words};
-ghost use Rattle.mq_ask_compare.specs.Worded.{scope_view, script_file, which_words};
-ghost use Rattle.mq_print.specs.Lists.{lent_texts, lines_view, list_view};
+ghost use Rattle.mq_ask_compare.specs.Worded.{scope_view, script_file};
+ghost use Rattle.mq_print.specs.Lists.{lines_view, list_view};
 
 use mq_acl::{Row, Rules};
-use mq_ask::{access_word, add_not_asked, add_not_asked_json, rules_owner};
+use mq_ask::{access_word, rules_owner};
 use mq_ask_cases::{
     ChangeRow, ScriptTraffic, add_counts, add_pattern, change_table, decision, group_text,
     publishes_text, rows_word, shown_topic, way_word,
@@ -28,6 +28,8 @@ use std::alloc::{AllocError, Global};
 pub struct ComparedTraffic<'a> {
     /// The publishes.
     pub script: ScriptTraffic<'a>,
+    /// By whose rules the lists are compared.
+    pub rules: Rules,
     /// The rows of the old list.
     pub old: &'a [Row],
     /// Those of the new list.
@@ -38,8 +40,8 @@ impl ComparedTraffic<'_> {
     // The publishes that the difference is about at most: those to topics that the filters of its lines match.
     fn publishes(self, alloc: Global, difference: &Difference) -> Result<Publishes, AllocError> {
         let mut patterns = Vec::new(alloc);
-        add_pattern(&mut patterns, self.old, difference.old_reason)?;
-        add_pattern(&mut patterns, self.new, difference.new_reason)?;
+        add_pattern(&mut patterns, self.rules, self.old, difference.old_reason)?;
+        add_pattern(&mut patterns, self.rules, self.new, difference.new_reason)?;
         Ok(self.script.traffic.matched(&patterns))
     }
 }
@@ -51,10 +53,6 @@ pub struct Scope<'a> {
     pub rules: Rules,
     /// Which differences alone are shown, if not all.
     pub only: Option<Way>,
-    /// Whether client ids and user names with `/`, `+` or `#` are left out.
-    pub is_limited: bool,
-    /// Users whom lines name, and about whom nothing is asked.
-    pub not_asked: &'a [&'a str],
     /// What the publishes of a script are counted by, if they are.
     pub traffic: Option<ComparedTraffic<'a>>,
     /// Whether what is gained is green, and what is lost red.
@@ -139,14 +137,12 @@ fn json_lines(
     differences: &[Difference],
 ) -> Result<String, AllocError>
     ensures { IfOk result (λ text. scope.entry.traffic ≡ None → string_bytes text
-        ≡ changes_text (lines_view old.entry) (lines_view new.entry) differences.now
-        (lent_texts scope.entry.not_asked.now)) }
+        ≡ changes_text (lines_view old.entry) (lines_view new.entry) differences.now) }
 {
     let mut text = String::new(alloc);
     for difference in differences {
         add_json(alloc, &mut text, scope, old, new, difference)?;
     }
-    add_not_asked_json(alloc, &mut text, scope.not_asked)?;
     Ok(text)
 }
 
@@ -201,19 +197,7 @@ fn words<'a>(
     let rows = change_rows(alloc, scope, old, new, groups)?;
     let mut text = change_table(alloc, &rows, scope.coloured)?;
     add_count(&mut text, scope, rows.len())?;
-    add_users(alloc, &mut text, scope)?;
     Ok(text)
-}
-
-// Adds the users about whom nothing is asked.
-fn add_users(alloc: Global, text: &mut String, scope: Scope<'_>) -> Result<(), AllocError>
-    ensures { OnOk result (SaysUsers (lent_texts scope.entry.not_asked.now)
-        (string_bytes text.old) (string_bytes text.new)) }
-{
-    let mut users = String::new(alloc);
-    add_not_asked(&mut users, scope.not_asked)?;
-    let shown = shown_lines(alloc, users.as_str(), Escape::Words)?;
-    text.push_str(shown.as_str())
 }
 
 // Adds that the one list allows nothing that the other doesn't.
@@ -245,26 +229,15 @@ fn every_word(only: Option<Way>) -> &'static str
     }
 }
 
-fn which_words(is_limited: bool) -> &'static str
-    ensures { result.now ≡ which_words is_limited }
-{
-    if is_limited {
-        " without /, + and # that"
-    } else {
-        ""
-    }
-}
-
 // Adds for which topics and clients.
-fn add_extent(text: &mut String, scope: Scope<'_>) -> Result<(), AllocError>
-    ensures { OnOk result (string_bytes text.new ≡ string_bytes text.old
-        ++ extent_words (every_word scope.entry.only) scope.entry.is_limited) }
+fn add_extent(text: &mut String, only: Option<Way>) -> Result<(), AllocError>
+    ensures { OnOk result (string_bytes text.new
+        ≡ string_bytes text.old ++ extent_words (every_word only)) }
 {
-    let every = every_word(scope.only);
-    let which = which_words(scope.is_limited);
+    let every = every_word(only);
     write!(
         text,
-        ", on {every} topic, to {every} client id and user name{which} a broker can have"
+        ", on {every} topic, to {every} client id and user name a broker can have"
     )
 }
 
@@ -276,20 +249,17 @@ fn none_line(alloc: Global, scope: Scope<'_>, old: &str, new: &str) -> Result<St
     let whose = rules_owner(scope.rules);
     let mut text = format!(in alloc; "by {whose} rules ")?;
     add_none(&mut text, scope.only, old, new)?;
-    add_extent(&mut text, scope)?;
+    add_extent(&mut text, scope.only)?;
     text.push('\n')?;
     Ok(text)
 }
 
-// And behind it the users about whom nothing is asked.
 fn none_text(alloc: Global, scope: Scope<'_>, old: &str, new: &str) -> Result<String, AllocError>
     ensures { IfOk result (λ text. SaysSame (scope_view scope.entry) old.now new.now
         (string_bytes text)) }
 {
     let line = none_line(alloc, scope, old, new)?;
-    let mut text = shown_lines(alloc, line.as_str(), Escape::Words)?;
-    add_users(alloc, &mut text, scope)?;
-    Ok(text)
+    shown_lines(alloc, line.as_str(), Escape::Words)
 }
 
 /// Where the lists differ: as a table of differences that are alike, or as JSON, one difference a line.
@@ -303,7 +273,7 @@ pub fn changes_text(
 ) -> Result<String, AllocError>
     ensures objects { IfOk result (λ text. json ≡ true → scope.entry.traffic ≡ None
         → string_bytes text ≡ changes_text (list_view old.entry) (list_view new.entry)
-        differences.items (lent_texts scope.entry.not_asked.now)) }
+        differences.items) }
     ensures words { IfOk result (λ text. json ≡ false → IsWorded (scope_view scope.entry)
         (list_view old.entry) (list_view new.entry) differences.items (string_bytes text)) }
 {

@@ -1,31 +1,24 @@
 //! The answer to `compare`.
 ghost use Rattle.std.specs.List.{filter, list_any};
-ghost use Rattle.std.specs.Prelude.{◌≡◌, ◌≢◌, ◌⊎◌, ◌++◌, ℕ, List, [], IfOk, IfErr, OnOk, false};
+ghost use Rattle.std.specs.Prelude.{◌≡◌, ℕ, List, IfOk, IfErr, OnOk, false};
 ghost use Rattle.std.specs.Prelude.{None, string_bytes, true};
 ghost use Rattle.mq_acl.specs.Views.{row_views};
-ghost use Rattle.mq_acl.specs.declared.rules.Rules.TheVariants.{Own};
 ghost use Rattle.mq_ask.specs.Lists.{AreRows};
-ghost use Rattle.mq_ask.specs.Notes.{EndsWithLimit, SaysLimit};
 ghost use Rattle.mq_ask.specs.Statuses.{failure_status};
 ghost use Rattle.mq_ask_cases.specs.Ways.{is_way};
 ghost use Rattle.mq_ask_compare.specs.Compare.{AreChanges, IsCompared, SaysWhetherSame};
-ghost use Rattle.mq_ask_compare.specs.Compare.{AreLimited, IsComparisonFailure, are_limited};
+ghost use Rattle.mq_ask_compare.specs.Compare.{IsComparisonFailure};
 ghost use Rattle.mq_ask_compare.specs.Changed.{AreObjects, AreShown};
 ghost use Rattle.mq_ask_compare.specs.Worded.{AreWorded, AreWords};
 ghost use Rattle.mq_print.specs.Lists.{list_view};
 ghost use Rattle.mq_differences.specs.Faults.{IsComparisonFault};
-ghost use Rattle.mq_who.specs.Unasked.{has_text, is_not_compared};
 
 use crate::changes::{ComparedTraffic, Scope, changes_text};
 use mq_acl::{Row, Rules};
-use mq_ask::{
-    Failure, Options, Outcome, add_limit_if, add_limits, check_taken, is_limited, print_outcome,
-    rows_in,
-};
+use mq_ask::{Failure, Options, Outcome, check_taken, print_outcome, rows_in};
 use mq_ask_cases::{ScriptTraffic, is_way};
 use mq_differences::{ComparisonFault, Difference, Side, Way, compare};
 use mq_print::ListText;
-use mq_who::users_not_compared;
 use std::alloc::{AllocError, Global};
 use std::io::Write;
 
@@ -138,47 +131,25 @@ fn has_change(differences: &[Difference], only: Option<Way>) -> bool
     differences.iter().any(|d| is_way(only, d.way))
 }
 
-// Whether there are differences that are asked about, or users about whom nothing is.
-fn outcome_of(differences: &[Difference], only: Option<Way>, users: &[&str]) -> Outcome
+// Whether there are differences that are asked about.
+fn outcome_of(differences: &[Difference], only: Option<Way>) -> Outcome
     ensures clear { result ≡ Outcome.Clear
-        → (list_any (λ d. is_way only d.way) differences.now ≡ false) × (users.now ≡ []) }
+        → list_any (λ d. is_way only d.way) differences.now ≡ false }
     ensures remark { result ≡ Outcome.Remark
-        → (list_any (λ d. is_way only d.way) differences.now ≡ true) ⊎ (users.now ≢ []) }
+        → list_any (λ d. is_way only d.way) differences.now ≡ true }
 {
     if has_change(differences, only) {
         return Outcome::Remark;
     }
-    if users.is_empty() {
-        return Outcome::Clear;
-    }
-    Outcome::Remark
+    Outcome::Clear
 }
 
-// The users whom the lists name, and about whom by these rules nothing is asked.
-fn users_in<'c>(
-    alloc: Global,
-    rules: Rules,
-    changes: &'c Changes,
-) -> Result<Vec<&'c str>, AllocError>
-    ensures { IfOk result (λ users. (name : List ℕ) → has_text users.items name
-        ≡ is_not_compared rules (row_views changes.entry.now.old.items
-        ++ row_views changes.entry.now.new.items) name) }
-{
-    users_not_compared(alloc, rules, &changes.old, &changes.new)
-}
-
-fn outcome_in(
-    alloc: Global,
-    rules: Rules,
-    changes: &Changes,
-    only: Option<Way>,
-) -> Result<Outcome, AllocError>
+fn outcome_in(rules: Rules, changes: &Changes, only: Option<Way>) -> Outcome
     ensures { (old new : List ℕ) → AreChanges rules old new changes.now
-        → IfOk result (SaysWhetherSame rules only (row_views changes.now.old.items)
-        (row_views changes.now.new.items)) }
+        → SaysWhetherSame rules only (row_views changes.now.old.items)
+        (row_views changes.now.new.items) result }
 {
-    let users = users_in(alloc, rules, changes)?;
-    Ok(outcome_of(&changes.differences, only, &users))
+    outcome_of(&changes.differences, only)
 }
 
 // Those that are asked about.
@@ -196,13 +167,6 @@ fn asked(
         .collect(alloc)
 }
 
-// Whether client ids and user names are left out.
-fn are_limited(rules: Rules, old: &[Row], new: &[Row]) -> bool
-    ensures { result ≡ are_limited rules (row_views old.now) (row_views new.now) }
-{
-    is_limited(rules, old) || is_limited(rules, new)
-}
-
 fn answer_text(
     alloc: Global,
     lists: (ListText<'_, '_>, ListText<'_, '_>),
@@ -211,43 +175,33 @@ fn answer_text(
     options: Options,
     changes: Changes,
 ) -> Result<String, AllocError>
-    ensures limited { IfOk result (λ text. are_limited options.rules (row_views changes.old.items)
-        (row_views changes.new.items) ≡ true → options.json ≡ false
-        → EndsWithLimit (string_bytes text)) }
     ensures objects { IfOk result (λ text. options.json ≡ true → script.entry ≡ None
-        → AreObjects options.rules only (list_view lists.entry.0) (list_view lists.entry.1) changes
+        → AreObjects only (list_view lists.entry.0) (list_view lists.entry.1) changes
         (string_bytes text)) }
     ensures words { IfOk result (λ text. options.json ≡ false
         → AreWords options.rules only script.entry options.coloured (list_view lists.entry.0)
         (list_view lists.entry.1) changes (string_bytes text)) }
 {
     let (old, new, differences) = changes.into_parts();
-    let not_asked = users_not_compared(alloc, options.rules, &old, &new)?;
-    let rules = options.rules;
-    let limited = are_limited(rules, &old, &new);
     let traffic = script.map(|script| ComparedTraffic {
         script,
+        rules: options.rules,
         old: &old,
         new: &new,
     });
     let scope = Scope {
-        rules,
+        rules: options.rules,
         only,
-        is_limited: limited,
-        not_asked: &not_asked,
         traffic,
         coloured: options.coloured,
     };
     let differences = asked(alloc, differences, only)?;
-    let mut text = changes_text(alloc, scope, lists.0, lists.1, differences, options.json)?;
-    add_limit_if(alloc, &mut text, limited, options.json)?;
-    Ok(text)
+    changes_text(alloc, scope, lists.0, lists.1, differences, options.json)
 }
 
 /// Shows where the lists with these texts differ, or what one of them alone allows, if so many
-/// steps suffice to know it, and last for which clients that is, where others are left out; `notes`
-/// say by which lines. Where a script is given, its publishes that each difference is about at most
-/// are counted. Of a list that mosquitto doesn't take nothing is answered.
+/// steps suffice to know it. Where a script is given, its publishes that each difference is about at
+/// most are counted. Of a list that mosquitto doesn't take nothing is answered.
 pub fn show_changes<'a, W: Write>(
     alloc: Global,
     old: ListText<'a, '_>,
@@ -256,31 +210,21 @@ pub fn show_changes<'a, W: Write>(
     script: Option<ScriptTraffic<'_>>,
     options: Options,
     out: &mut W,
-    notes: &mut String,
 ) -> Result<Outcome, Failure<'a>>
     ensures ok { IfOk result (IsCompared options.rules only old.entry.text.now
         new.entry.text.now) }
     ensures unread { IfErr result (λ failure. failure_status failure ≡ 2 → out.new ≡ out.old) }
-    ensures limited { OnOk result (AreLimited options.rules old.entry.text.now new.entry.text.now
-        → options.json ≡ false → SaysLimit (W.contents out.old) (W.contents out.new)) }
     ensures json { OnOk result (options.json ≡ true → script.entry ≡ None
         → AreShown options.rules only old.entry new.entry
         (W.contents out.old) (W.contents out.new)) }
     ensures words { OnOk result (options.json ≡ false
         → AreWorded options.rules only script.entry options.coloured old.entry new.entry
         (W.contents out.old) (W.contents out.new)) }
-    ensures quiet { OnOk result (options.rules ≡ Own → notes.new ≡ notes.old) }
 {
     check_taken(alloc, old)?;
     check_taken(alloc, new)?;
     let changes = find_changes(alloc, options.rules, old, new, options.steps)?;
-    let outcome = outcome_in(alloc, options.rules, &changes, only)?;
-    add_limits(
-        notes,
-        options.rules,
-        (old.file, &changes.old),
-        (new.file, &changes.new),
-    )?;
+    let outcome = outcome_in(options.rules, &changes, only);
     let text = answer_text(alloc, (old, new), only, script, options, changes)?;
     print_outcome(out, Ok(text), outcome)
 }

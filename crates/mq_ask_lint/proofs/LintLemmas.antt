@@ -58,8 +58,8 @@ first_fault (r ∷ rs) e = at r.kind e (first_fault rs)
     at kinds_of.Tab e behind = behind e
     at kinds_of.Hidden e behind = behind e
     at (kinds_of.Repeats line) e behind = behind e
-    at (kinds_of.DeniesNothing ids) e behind = behind e
-    at (kinds_of.Needless ids by) e behind = behind e
+    at kinds_of.DeniesNothing e behind = behind e
+    at (kinds_of.Needless by) e behind = behind e
 
 -- such a text has a first faulty line
 pub faulty_of : (rules : Rules) (text : List ℕ) (odd : List Remark) → has_fault odd ≡ true

@@ -27,7 +27,7 @@ is_fault kind = false
 
 -- the remark says more than that a line denies nothing: such a line may guard
 abbrev pub matters : RemarkKind → Bool
-matters (DeniesNothing ids) = false
+matters DeniesNothing = false
 matters kind = true
 
 abbrev pub has_fault : List Remark → Bool
@@ -47,8 +47,6 @@ pub record IsNeedlessIn (rules : Rules) (text : List ℕ) (shown : List Remark) 
 pub record AreRemarks (rules : Rules) (text : List ℕ) (r : Remarks) : Type 0 where
   pub odd : r.odd.items ≡ remarks_of rules text
   pub none : has_fault r.odd.items ≡ true → r.needless.items ≡ []
-  pub no_rows : has_fault r.odd.items ≡ true → r.rows.items ≡ []
-  pub rows : has_fault r.odd.items ≡ false → AreRows rules text r.rows.items
   pub all : has_fault r.odd.items ≡ false → IsNeedlessIn rules text r.needless.items
   pub empty : r.is_empty ≡ true → rows_by rules text ≡ Ok []
   pub full : has_fault r.odd.items ≡ false → r.is_empty ≡ false → rows_by rules text ≢ Ok []

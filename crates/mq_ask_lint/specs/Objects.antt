@@ -1,13 +1,11 @@
 -- What is said of a list, as JSON: an object for each remark on a line, and some of the list as a whole.
 use Rattle.std.specs.List.{filter, flat_map, list_any}
 use Rattle.std.specs.Option.{option_map}
-use Rattle.std.specs.Prelude.{◌≡◌, ◌++◌, ◌∷◌, ◌&&◌, ◌==◌, ℕ, Bool, List, [], Option, Some, None}
+use Rattle.std.specs.Prelude.{◌≡◌, ◌++◌, ◌∷◌, ◌==◌, ℕ, Bool, List, [], Option, Some, None}
 use Rattle.std.specs.Prelude.{codes, if◌then◌else◌, map, not}
 use Rattle.std.specs.Str.{trim}
-use Rattle.mq_acl.specs.Views.{row_views}
 use Rattle.mq_acl.specs.declared.rules.Rules.{Rules}
 use Rattle.mq_acl.specs.declared.rules.Rules.TheVariants.{Mosquitto}
-use Rattle.mq_ask.specs.Notes.{by_mosquitto}
 use Rattle.mq_ask_lint.specs.Lint.{AreRemarks, is_fault}
 use Rattle.mq_ask_lint.specs.declared.lint.Remarks.{Remarks}
 use Rattle.mq_lint.specs.Remarks.{remarks_of}
@@ -19,7 +17,6 @@ use Rattle.mq_lint.specs.declared.remark.RemarkKind.TheVariants.{DeniesNothing, 
 use Rattle.mq_print.specs.Lists.{ListView, line_at, list_view}
 use Rattle.mq_print.specs.Objects.{number_data, object_text, text_data}
 use Rattle.mq_print.specs.declared.list.ListText.{ListText}
-use Rattle.mq_witness.specs.Ruled.{has_patterns}
 use Rattle.serde_json.specs.Data.{Members, no_members, put, string}
 
 -- what is said of a line, or without one of the list as a whole
@@ -36,13 +33,13 @@ kind_text IndentedComment = codes "indented comment"
 kind_text Tab = codes "tab"
 kind_text Hidden = codes "hidden characters"
 kind_text (Repeats line) = codes "repeats"
-kind_text (DeniesNothing ids) = codes "denies nothing"
-kind_text (Needless ids by) = codes "needless"
+kind_text DeniesNothing = codes "denies nothing"
+kind_text (Needless by) = codes "needless"
 
 -- the line that this one repeats, or that makes it needless
 abbrev pub other_line : RemarkKind → Option ℕ
 other_line (Repeats line) = Some line
-other_line (Needless ids by) = by
+other_line (Needless by) = by
 other_line kind = None
 
 abbrev pub remark_said : Remark → Said
@@ -102,21 +99,8 @@ pub record AddsObjects (list : ListView) (all : List Said) (before after : List 
   pub of_all : map (λ it. it.0) worded ≡ all
   pub text_is : after ≡ before ++ flat_map (λ it. said_text list it.0 it.1) worded
 
--- the remarks hold for these clients alone
-abbrev pub limited_text : (file : List ℕ) → List ℕ
-limited_text file = object_text (
-    put (codes "limited_to") (string (codes "client ids and user names without /, + and #")) (
-    put (codes "file") (string file) no_members))
-
-abbrev pub limited_if : (limited : Bool) → (file : List ℕ) → List ℕ
-limited_if limited file = if limited then limited_text file else []
-
--- an object was added for all that is said of the list by these rules, and last for whom it holds, where others are
--- left out
+-- an object was added for all that is said of the list by these rules
 pub record AddsRemarks (rules : Rules) (list : ListText) (before after : List ℕ) : Type 0 where
   pub found : Remarks
   pub are : AreRemarks rules list.text.now found
-  pub shown : List ℕ
-  pub objects : AddsObjects (list_view list) (all_said list.text.now found) before shown
-  pub text_is : after ≡ shown
-      ++ limited_if (by_mosquitto rules && has_patterns (row_views found.rows.items)) list.file.now
+  pub objects : AddsObjects (list_view list) (all_said list.text.now found) before after

@@ -1,26 +1,20 @@
 //! The answer to `lint`.
 ghost use Rattle.std.specs.Prelude.{◌≡◌, ◌≢◌, ◌⊎◌, ℕ, List, [], IfOk, IfErr, OnOk, true, false};
-ghost use Rattle.mq_acl.specs.declared.rules.Rules.TheVariants.{Own};
-ghost use Rattle.std.specs.Prelude.{◌++◌, ◌&&◌, string_bytes};
-ghost use Rattle.mq_acl.specs.Views.{row_views};
+ghost use Rattle.std.specs.Prelude.{string_bytes};
 ghost use Rattle.mq_ask.specs.Lists.{AreRows};
-ghost use Rattle.mq_ask.specs.Notes.{by_mosquitto};
 ghost use Rattle.mq_ask_lint.specs.Lint.{IsLintFailure, AreRemarks, has_fault, has_needless};
 ghost use Rattle.mq_ask_lint.specs.Lint.{is_fault, matters, IsLinted, SaysWhetherTaken};
-ghost use Rattle.mq_ask_lint.specs.Objects.{AddsObjects, AddsRemarks, empty_said, limited_if};
+ghost use Rattle.mq_ask_lint.specs.Objects.{AddsObjects, AddsRemarks, empty_said};
 ghost use Rattle.mq_ask_lint.specs.Objects.{refused_lines};
 ghost use Rattle.mq_lint.specs.Needless.{AreNeedless};
 ghost use Rattle.mq_lint.specs.NeedlessFault.{IsNeedlessFault};
-ghost use Rattle.mq_witness.specs.Ruled.{has_patterns};
 ghost use denote.Ref.{Bor};
 
 use crate::remarks::{add_empty, add_none, add_refused, add_remarks};
 use mq_acl::{AclKind, Row, Rules, read_rows_by};
-use mq_ask::{
-    Failure, LIMITED_TO, Options, Outcome, add_limit, foreign_words, is_limited, rows_in,
-};
+use mq_ask::{Failure, Options, Outcome, foreign_words, rows_in};
 use mq_lint::{NeedlessFault, Remark, RemarkKind, needless, remarks};
-use mq_print::{Datum, ListText, add_object};
+use mq_print::ListText;
 use std::alloc::{AllocError, Global};
 
 /// The remarks on a list.
@@ -29,8 +23,6 @@ pub struct Remarks {
     pub odd: Vec<Remark>,
     /// Lines that repeat another, deny nothing or are needless, where none is faulty.
     pub needless: Vec<Remark>,
-    /// The rows, where none is faulty.
-    pub rows: Vec<Row>,
     /// Whether none is faulty, and none says anything: the list allows nothing.
     pub is_empty: bool,
 }
@@ -41,7 +33,6 @@ impl Drop for Remarks {
         let Remarks {
             odd: _,
             needless: _,
-            rows: _,
             is_empty: _,
         } = self;
     }
@@ -57,7 +48,7 @@ fn is_fault(kind: RemarkKind) -> bool
 fn matters(kind: RemarkKind) -> bool
     ensures { result ≡ matters kind }
 {
-    !matches!(kind, RemarkKind::DeniesNothing(_))
+    !matches!(kind, RemarkKind::DeniesNothing)
 }
 
 fn has_fault(odd: &[Remark]) -> bool
@@ -137,7 +128,6 @@ pub fn find_remarks<'a>(
         return Ok(Remarks {
             odd,
             needless: Vec::new(alloc),
-            rows: Vec::new(alloc),
             is_empty: false,
         });
     }
@@ -147,7 +137,6 @@ pub fn find_remarks<'a>(
     Ok(Remarks {
         odd,
         needless,
-        rows,
         is_empty,
     })
 }
@@ -220,57 +209,29 @@ fn add_whole(
     if options.json || !found.odd.is_empty() || !found.needless.is_empty() {
         return Ok(());
     }
-    let limited = is_limited(options.rules, &found.rows);
-    add_none(answer, file, options.rules, limited)
-}
-
-// Adds as JSON for which clients the remarks hold, where others are left out. In words each says so of itself.
-fn add_limit_json(
-    alloc: Global,
-    answer: &mut String,
-    file: &str,
-    found: &Remarks,
-    options: Options,
-) -> Result<(), AllocError>
-    ensures { OnOk result (options.json ≡ true → string_bytes answer.new
-        ≡ string_bytes answer.old ++ limited_if (by_mosquitto options.rules
-        && has_patterns (row_views found.now.rows.items)) file.now) }
-{
-    if !options.json || !is_limited(options.rules, &found.rows) {
-        return Ok(());
-    }
-    let limit = Datum::Text(LIMITED_TO);
-    add_object(
-        alloc,
-        answer,
-        &[("file", Datum::Text(file)), ("limited_to", limit)],
-    )
+    add_none(answer, file, options.rules)
 }
 
 /// Adds to an answer what is odd or needless in the list, if so many steps suffice to know it, and
-/// which lines mosquitto doesn't take; and notes of whom it isn't known.
+/// which lines mosquitto doesn't take.
 pub fn add_lint<'a>(
     alloc: Global,
     list: ListText<'a, '_>,
     options: Options,
     answer: &mut String,
-    notes: &mut String,
 ) -> Result<Linted, Failure<'a>>
     ensures ok { IfOk result (λ linted. IsLinted options.rules list.entry.text.now linted.outcome) }
     ensures taken { IfOk result (λ linted.
         SaysWhetherTaken list.entry.text.now linted.is_taken) }
     ensures json { OnOk result (options.json ≡ true → AddsRemarks options.rules list.entry
         (string_bytes answer.old) (string_bytes answer.new)) }
-    ensures quiet { OnOk result (options.rules ≡ Own → notes.new ≡ notes.old) }
 {
     let found = find_remarks(alloc, options.rules, list, options.steps)?;
     let is_taken = is_taken(alloc, list.text)?;
     let refused = refused_lines(alloc, list.text)?;
-    add_limit(notes, options.rules, list.file, &found.rows)?;
     let outcome = outcome_of(&found);
     add_remarks(alloc, answer, list, &found.odd, &found.needless, options)?;
     add_refused(alloc, answer, list, &found.odd, &refused, options)?;
     add_whole(alloc, answer, list.file, &found, options)?;
-    add_limit_json(alloc, answer, list.file, &found, options)?;
     Ok(Linted { outcome, is_taken })
 }

@@ -8,7 +8,7 @@ ghost use Rattle.mq_print.specs.Lists.{lines_view, list_view};
 
 use mq_acl::Rules;
 use mq_ask::{Options, fault_words, reload_words, rules_owner};
-use mq_lint::{Ids, Remark, RemarkKind};
+use mq_lint::{Remark, RemarkKind};
 use mq_print::{Datum, Escape, Lines, ListText, add_object, lines_of, shown_lines};
 use std::alloc::{AllocError, Global};
 
@@ -34,9 +34,6 @@ const REFUSED: &str = "mosquitto 2.0 doesn't take this line";
 const NOTHING: &str = "no line is faulty or odd, repeats another, denies nothing or is needless, \
                        for any client id and user name";
 
-const UNKNOWN: &str = "; whether a deny line with %c or %u, or a line for a user name with /, + \
-                       or #, is needless isn't known";
-
 // The kind of what is said of a list that mosquitto doesn't take.
 const NOT_TAKEN: &str = "not taken";
 
@@ -50,8 +47,8 @@ fn kind_name(kind: RemarkKind) -> &'static str
         RemarkKind::Tab => "tab",
         RemarkKind::Hidden => "hidden characters",
         RemarkKind::Repeats(_) => "repeats",
-        RemarkKind::DeniesNothing(_) => "denies nothing",
-        RemarkKind::Needless(_, _) => "needless",
+        RemarkKind::DeniesNothing => "denies nothing",
+        RemarkKind::Needless(_) => "needless",
     }
 }
 
@@ -61,7 +58,7 @@ fn other_line(kind: RemarkKind) -> Option<u64>
 {
     match kind {
         RemarkKind::Repeats(other) => Some(other),
-        RemarkKind::Needless(_, by) => by,
+        RemarkKind::Needless(by) => by,
         _ => None,
     }
 }
@@ -70,14 +67,6 @@ fn no_mark(rules: Rules) -> &'static str {
     match rules {
         Rules::Own => NO_MARK,
         Rules::Mosquitto => NO_MARK_MOSQUITTO,
-    }
-}
-
-// For whom a remark holds, if not for all.
-fn whom_words(ids: Ids) -> &'static str {
-    match ids {
-        Ids::Every => "",
-        Ids::Plain => " (for client ids and user names without /, + and #)",
     }
 }
 
@@ -94,17 +83,10 @@ fn kind_words(
         RemarkKind::Tab => String::from_str(alloc, TAB),
         RemarkKind::Hidden => String::from_str(alloc, HIDDEN),
         RemarkKind::Repeats(other) => format!(in alloc; "repeats line {other}"),
-        RemarkKind::DeniesNothing(ids) => {
-            let whom = whom_words(ids);
-            format!(in alloc; "{DENIES_NOTHING}{whom}")
-        }
-        RemarkKind::Needless(ids, None) => {
-            let whom = whom_words(ids);
-            format!(in alloc; "{NEEDLESS}{whom}")
-        }
-        RemarkKind::Needless(ids, Some(other)) => {
-            let whom = whom_words(ids);
-            format!(in alloc; "{NEEDLESS}, because of line {other}{whom}")
+        RemarkKind::DeniesNothing => String::from_str(alloc, DENIES_NOTHING),
+        RemarkKind::Needless(None) => String::from_str(alloc, NEEDLESS),
+        RemarkKind::Needless(Some(other)) => {
+            format!(in alloc; "{NEEDLESS}, because of line {other}")
         }
     }
 }
@@ -315,23 +297,12 @@ pub(crate) fn add_refused(
     add_reload(alloc, text, list.file, options.json)
 }
 
-/// Adds that there is no remark on the list in this file, by whose rules, and whether client ids and user
-/// names with `/`, `+` or `#` are left out.
-pub(crate) fn add_none(
-    text: &mut String,
-    file: &str,
-    rules: Rules,
-    is_limited: bool,
-) -> Result<(), AllocError> {
+/// Adds that there is no remark on the list in this file, and by whose rules.
+pub(crate) fn add_none(text: &mut String, file: &str, rules: Rules) -> Result<(), AllocError> {
     let whose = rules_owner(rules);
-    let (which, unknown) = if is_limited {
-        (" without /, + and # that", UNKNOWN)
-    } else {
-        ("", "")
-    };
     writeln!(
         text,
-        "{file}: nothing to remark: by {whose} rules {NOTHING}{which} a broker can have{unknown}"
+        "{file}: nothing to remark: by {whose} rules {NOTHING} a broker can have"
     )
 }
 

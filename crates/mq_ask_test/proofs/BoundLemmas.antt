@@ -66,16 +66,16 @@ module _ (rules : Rules) (old new : List Row) (all : List Difference)
 
   pub within : (way : Way) → find (λ (d : Difference). same_way d.way way) all ≡ None
       → IsKept rules way old new
-  within Gained e = λ direction client topic user c u q v a.
+  within Gained e = λ direction client topic user c u v a.
       true_unless (allow_by rules (row_views old) client user topic direction) (λ b.
       unless Gained direction client topic user
       (found_none (λ (d : Difference). same_way d.way Gained) all e)
-      (shown Gained direction client topic user c u q v (λ i. a i && not (b i))))
-  within Lost e = λ direction client topic user c u q v a.
+      (shown Gained direction client topic user c u v (λ i. a i && not (b i))))
+  within Lost e = λ direction client topic user c u v a.
       true_unless (allow_by rules (row_views new) client user topic direction) (λ b.
       unless Lost direction client topic user
       (found_none (λ (d : Difference). same_way d.way Lost) all e)
-      (shown Lost direction client topic user c u q v (λ i. a i && not (b i))))
+      (shown Lost direction client topic user c u v (λ i. a i && not (b i))))
 
 -- one that is found is of the way
 pub beyond : (rules : Rules) (old new : List Row) (way : Way) (all : List Difference)

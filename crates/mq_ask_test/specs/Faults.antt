@@ -8,6 +8,7 @@ use Rattle.mq_witness.specs.Limits.{long_line, marked_line}
 use Rattle.mq_differences.specs.Steps.{enough_steps}
 use Rattle.mq_expect.specs.Expectations.{AtLeast, AtMost, Entry}
 use Rattle.mq_expect.specs.declared.fault.ExpectationKind.{ExpectationKind}
+use Rattle.mq_who.specs.Made.{most_made}
 use Rattle.mq_ask_test.specs.Lists.{rows_in}
 use Rattle.mq_ask_test.specs.Questions.{Question}
 use Rattle.mq_ask_test.specs.declared.fault.TestFault.{TestFault}
@@ -55,7 +56,7 @@ IsEntryFault rules lists file rows steps line (AtMost bound) f =
 IsEntryFault rules lists file rows steps line (AtLeast bound) f =
     IsBehind rules lists bound file rows steps line f
 IsEntryFault rules lists file rows steps line entry f =
-    IsListFault rules file rows (length rows + 1) steps line f
+    IsListFault rules file rows (length rows + most_made rules (length rows)) steps line f
 
 -- it is so of what a line without a fault asks
 abbrev pub IsAskedFault : Rules → List ReadList → Option (List ℕ) → (steps line : ℕ)

@@ -1,5 +1,5 @@
 -- What comes of a line of a file of expectations.
-use Rattle.std.specs.Prelude.{◌≡◌, ◌++◌, ℕ, Bool, true, false, List, string_bytes, Option, Some, None, Result, Ok, Err, IsSomeAnd}
+use Rattle.std.specs.Prelude.{◌≡◌, ℕ, Bool, true, false, List, Option, Some, None, Result, Ok, Err, IsSomeAnd}
 use Rattle.std.specs.Prelude.{All, Contains}
 use Rattle.std.specs.List.{list_all}
 use Rattle.mq_topic.specs.Levels.{levels}
@@ -14,13 +14,12 @@ use Rattle.mq_acl.specs.declared.rules.Rules.TheVariants.{Mosquitto}
 use Rattle.mq_witness.specs.Clients.{can_be_id}
 use Rattle.mq_witness.specs.Limits.{has_short_levels}
 use Rattle.mq_differences.specs.Classes.{can_be_user}
-use Rattle.mq_differences.specs.Differences.{IsReal, is_compared}
+use Rattle.mq_differences.specs.Differences.{IsReal}
 use Rattle.mq_differences.specs.declared.way.Way.{Way}
 use Rattle.mq_differences.specs.declared.way.Way.TheVariants.{Gained, Lost}
 use Rattle.mq_expect.specs.Expectations.{AtLeast, AtMost, Claim, Claims, Entry}
 use Rattle.mq_expect.specs.declared.fault.ExpectationKind.{ExpectationKind}
 use Rattle.mq_who.specs.Claims.{IsJudgement}
-use Rattle.mq_who.specs.Unasked.{is_not_compared}
 use Rattle.mq_who.specs.declared.judge.Judgement.TheVariants as judged
 use Rattle.mq_ask_test.specs.Lists.{rows_in}
 use Rattle.mq_ask_test.specs.Questions.{Question, asked_view}
@@ -41,44 +40,30 @@ IsClaimed rules rows claim (found.NoneMay direction) =
     IsJudgement rules rows claim (judged.NoneMay direction)
 IsClaimed rules rows claim (found.Unnamed user) =
     IsJudgement rules rows claim (judged.Unnamed user)
-IsClaimed rules rows claim (found.Unasked user) =
-    IsJudgement rules rows claim (judged.Unasked user)
 IsClaimed rules rows claim (found.Refused direction) =
     IsJudgement rules rows claim (judged.Refused direction)
-IsClaimed rules rows claim (found.LeavesOut user) =
-    IsJudgement rules rows claim (judged.LeavesOut user)
 IsClaimed rules rows claim found.LongLevel = has_short_levels claim.topics ≡ false
 IsClaimed rules rows claim found.PartMark =
     (rules ≡ Mosquitto) × (list_all is_pattern_level (levels claim.topics) ≡ false)
 IsClaimed rules rows claim finding = ⊥
 
 -- ---- of two lists
--- whatever the one list allows to a client that a broker can have, and that the lists are compared for,
--- the other allows
-abbrev pub IsWithin : Rules → (inner outer one other : List Row) → Type 0
-IsWithin rules inner outer one other = (direction : Direction) (client topic : List ℕ)
+-- whatever the one list allows to a client that a broker can have, the other allows
+abbrev pub IsWithin : Rules → (inner outer : List Row) → Type 0
+IsWithin rules inner outer = (direction : Direction) (client topic : List ℕ)
     (user : Option (List ℕ)) → can_be_id client ≡ true → can_be_user user ≡ true
-    → is_compared rules one other client user ≡ true → is_name topic ≡ true
-    → allow_by rules (row_views inner) client user topic direction ≡ true
+    → is_name topic ≡ true → allow_by rules (row_views inner) client user topic direction ≡ true
     → allow_by rules (row_views outer) client user topic direction ≡ true
 
 -- the list allows at most what the other one does, or at least that
 abbrev pub IsKept : Rules → Way → (bound rows : List Row) → Type 0
-IsKept rules Gained bound rows = IsWithin rules rows bound bound rows
-IsKept rules Lost bound rows = IsWithin rules bound rows bound rows
+IsKept rules Gained bound rows = IsWithin rules rows bound
+IsKept rules Lost bound rows = IsWithin rules bound rows
 
--- each user whom a line of one of the lists names is compared
-abbrev pub LeavesNoneOut : Rules → (bound rows : List Row) → Type 0
-LeavesNoneOut rules bound rows = (name : List ℕ)
-    → is_not_compared rules (row_views bound ++ row_views rows) name ≡ false
-
--- it does, and no user whom a line names is left out, or this one is; or the list allows something more than the
--- other one, or something less, as the difference shows
+-- it does; or the list allows something more than the other one, or something less, as the difference
+-- shows
 abbrev pub IsBound : Rules → Way → (bound rows : List Row) → Finding → Type 0
-IsBound rules way bound rows found.Holds =
-    IsKept rules way bound rows × LeavesNoneOut rules bound rows
-IsBound rules way bound rows (found.LeavesOut user) = IsKept rules way bound rows
-    × (is_not_compared rules (row_views bound ++ row_views rows) (string_bytes user) ≡ true)
+IsBound rules way bound rows found.Holds = IsKept rules way bound rows
 IsBound rules way bound rows (found.Differs d) = IsReal rules bound rows d × (d.way ≡ way)
 IsBound rules way bound rows finding = ⊥
 

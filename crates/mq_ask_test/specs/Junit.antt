@@ -9,6 +9,7 @@ use Rattle.std.specs.Option.{option_or}
 use Rattle.std.specs.Str.{chars, trim}
 use Rattle.mq_acl.specs.declared.rules.Rules.{Rules}
 use Rattle.mq_acl.specs.declared.rules.Rules.TheVariants.{Own, Mosquitto}
+use Rattle.mq_ask.specs.Notes.{limited_to}
 use Rattle.mq_ask_test.specs.Findings.{IsVerdict, is_holds}
 use Rattle.mq_ask_test.specs.Questions.{Question, asked_view}
 use Rattle.mq_ask_test.specs.declared.list.ReadList.{ReadList}
@@ -76,7 +77,7 @@ suite_end = codes "  </testsuite>\n</testsuites>\n"
 abbrev pub properties : Rules → List ℕ
 properties Own = []
 properties Mosquitto = codes "    <properties>\n      <property name=\"limited_to\""
-    ++ attribute (codes "value") (codes "client ids and user names without /, + and #")
+    ++ attribute (codes "value") limited_to
     ++ codes "/>\n    </properties>\n"
 
 -- a line of the file of expectations: its text, and where it stands

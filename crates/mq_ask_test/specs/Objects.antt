@@ -89,19 +89,11 @@ kind_text (found.Fails d) = codes "fails"
 kind_text (found.Differs d) = codes "differs"
 kind_text (found.NoneMay direction) = codes "none may"
 kind_text (found.Unnamed user) = codes "unnamed"
-kind_text (found.Unasked user) = codes "unasked"
 kind_text (found.Refused direction) = codes "refused"
-kind_text (found.LeavesOut user) = codes "not asked"
 kind_text (found.Fault kind) = codes "fault"
 kind_text found.LongLevel = codes "long level"
 kind_text found.PartMark = codes "part of a level"
 kind_text found.NoList = codes "no list"
-
--- the user about whom nothing is asked, if it is of one
-abbrev pub user_not_asked : Finding → Option (List ℕ)
-user_not_asked (found.Unasked user) = Some user.now
-user_not_asked (found.LeavesOut user) = Some (string_bytes user)
-user_not_asked finding = None
 
 abbrev pub verdict_members : ListView → Question → Finding → Example
     → (words : Option (List ℕ)) → Members
@@ -113,7 +105,6 @@ verdict_members expectations q finding e words =
     put (codes "placeholders") (array (items_of (option_map_or
     (λ d. map (λ text. string (string_bytes text)) d.placeholders.items) e.shown []))) (
     put (codes "other") (line_data e.other) (
-    put (codes "not_asked") (text_data (user_not_asked finding)) (
     put (codes "list") (text_data q.list) (
     put (codes "line") (whole_data q.line) (
     put (codes "kind") (string (kind_text finding)) (
@@ -122,7 +113,7 @@ verdict_members expectations q finding e words =
     put (codes "decided") (line_data e.decided) (
     put (codes "client") (text_data (option_map (λ d. string_bytes d.client) e.shown)) (
     put (codes "access") (text_data (option_map (λ d. access_text d.direction) e.shown))
-    no_members))))))))))))))
+    no_members)))))))))))))
 
 -- what a verdict is written as, with some words where no client and topic show it
 abbrev pub verdict_text : List ReadList → ListView → Verdict → (words : Option (List ℕ)) → List ℕ

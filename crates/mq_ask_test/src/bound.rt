@@ -1,7 +1,7 @@
 //! Whether a list allows at most what another one does, or at least that.
 ghost use Rattle.std.specs.Prelude.{◌≡◌, ℕ, IfOk, IfErr, find};
 ghost use Rattle.mq_ask_test.specs.Faults.{IsBoundFault};
-ghost use Rattle.mq_ask_test.specs.Findings.{IsBound, IsKept};
+ghost use Rattle.mq_ask_test.specs.Findings.{IsBound};
 ghost use Rattle.mq_differences.specs.Differences.{same_way};
 ghost use Rattle.mq_differences.specs.Faults.{IsComparisonFault};
 ghost use Rattle.mq_differences.specs.declared.way.Way.{Way};
@@ -9,10 +9,9 @@ ghost use Rattle.mq_differences.specs.declared.way.Way.{Way};
 use crate::fault::TestFault;
 use crate::finding::Finding;
 use crate::list::Listed;
-use mq_acl::{Row, Rules};
+use mq_acl::Rules;
 use mq_differences::{ComparisonFault, Difference, Side, Way, compare};
-use mq_who::users_not_compared;
-use std::alloc::{AllocError, Global};
+use std::alloc::Global;
 
 // The first of this way.
 fn first(differences: Vec<Difference>, way: Way) -> Option<Difference>
@@ -65,24 +64,6 @@ fn bound_fault<'a>(
     }
 }
 
-// Nothing of the way is shown: it holds, unless it isn't known of a user whom a line names.
-fn unless_left_out<'a>(
-    alloc: Global,
-    rules: Rules,
-    bound: &[Row],
-    rows: &[Row],
-) -> Result<Finding<'a>, AllocError>
-    ensures { (way : Way) → IsKept rules way bound.now rows.now
-        → IfOk result (IsBound rules way bound.now rows.now) }
-{
-    let left_out = users_not_compared(alloc, rules, bound, rows)?;
-    let users = left_out.as_slice();
-    if users.is_empty() {
-        return Ok(Finding::Holds);
-    }
-    Ok(Finding::LeavesOut(String::from_str(alloc, users[0])?))
-}
-
 /// Whether nothing is gained from the other list to this one, or nothing is lost.
 pub(crate) fn bound_finding<'a>(
     alloc: Global,
@@ -100,7 +81,7 @@ pub(crate) fn bound_finding<'a>(
     match compare(alloc, rules, bound.rows, list.rows, steps) {
         Ok(differences) => match first(differences, way) {
             Some(difference) => Ok(Finding::Differs(difference)),
-            None => Ok(unless_left_out(alloc, rules, bound.rows, list.rows)?),
+            None => Ok(Finding::Holds),
         },
         Err(fault) => Err(bound_fault(bound, list, expectation, fault)),
     }

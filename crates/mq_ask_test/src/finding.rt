@@ -9,10 +9,8 @@ use mq_expect::ExpectationKind;
 /// What comes of a line of a file of expectations.
 #[derive(Drop)]
 pub enum Finding<'a> {
-    /// It holds, for each client and topic that is asked about. By mosquitto's rules clients whose
-    /// id or user name holds `/`, `+` or `#` aren't asked about: of no claim, and of no list that
-    /// is compared where one of both has `pattern` lines. No user whom a line names is one of these
-    /// where it is said of all.
+    /// It holds, for each client and topic that is asked about (`mq_who::Judgement` says of a claim which clients these
+    /// are; of two lists that are compared it is all).
     Holds,
     /// What it says of clients isn't so of this client and topic: `old_reason` is the line of the list that decides.
     Fails(Difference),
@@ -23,15 +21,9 @@ pub enum Finding<'a> {
     NoneMay(Direction),
     /// No line of the list names this user.
     Unnamed(&'a str),
-    /// By mosquitto's rules nothing is asked about this user, whose name holds `/`, `+` or `#`.
-    Unasked(&'a str),
     /// Each client is to be allowed topics that mosquitto refuses to let clients read or write in
     /// this direction, whatever the list says.
     Refused(Direction),
-    /// It holds, for each client and topic that is asked about. But it is about this user too, whom
-    /// a line of a list names, and about whom by mosquitto's rules nothing is asked, since its name
-    /// holds `/`, `+` or `#`.
-    LeavesOut(String),
     /// The line has a fault.
     Fault(ExpectationKind),
     /// Its filter has a level of more than 300 bytes.

@@ -3,7 +3,7 @@ ghost use Rattle.std.specs.Option.{option_and_then, option_copied, option_map, o
 ghost use Rattle.std.specs.Prelude.{◌≡◌, ◌++◌, [], List, ℕ, IfOk, OnOk, Option, string_bytes};
 ghost use Rattle.mq_ask.specs.Words.{access_text};
 ghost use Rattle.mq_ask_test.specs.Objects.{AreVerdictTexts, case_view, count_members, example_of};
-ghost use Rattle.mq_ask_test.specs.Objects.{kind_text, shown_view, user_not_asked};
+ghost use Rattle.mq_ask_test.specs.Objects.{kind_text, shown_view};
 ghost use Rattle.mq_ask_test.specs.Objects.{verdict_members, verdict_text};
 ghost use Rattle.mq_ask_test.specs.Questions.{asked_view};
 ghost use Rattle.mq_differences.specs.Classes.{user_of};
@@ -30,24 +30,11 @@ fn kind_name(finding: &Finding<'_>) -> &'static str
         Finding::Differs(_) => "differs",
         Finding::NoneMay(_) => "none may",
         Finding::Unnamed(_) => "unnamed",
-        Finding::Unasked(_) => "unasked",
         Finding::Refused(_) => "refused",
-        Finding::LeavesOut(_) => "not asked",
         Finding::Fault(_) => "fault",
         Finding::LongLevel => "long level",
         Finding::PartMark => "part of a level",
         Finding::NoList => "no list",
-    }
-}
-
-// The user about whom nothing is asked, if it is of one.
-fn not_asked<'v>(finding: &'v Finding<'_>) -> Option<&'v str>
-    ensures { option_copied result ≡ user_not_asked finding.entry.now }
-{
-    match finding {
-        Finding::Unasked(user) => Some(*user),
-        Finding::LeavesOut(user) => Some(user.as_str()),
-        _ => None,
     }
 }
 
@@ -142,7 +129,6 @@ fn add_one<'v>(
             ("kind", Datum::Text(kind_name(&verdict.finding))),
             ("line", Datum::Number(number)),
             ("list", Datum::TextIf(verdict.asked.list)),
-            ("not_asked", Datum::TextIf(not_asked(&verdict.finding))),
             ("other", Datum::LineIf(shown.other)),
             ("placeholders", Datum::Texts(placeholders_in(difference))),
             ("text", Datum::Text(expectations.line(number))),

@@ -9,6 +9,7 @@ ghost use Rattle.mq_expect.specs.Expectations.{Claim as Claimed};
 ghost use Rattle.mq_expect.specs.Views.{claim_view, entry_view};
 ghost use Rattle.mq_who.specs.Claims.{IsJudgement};
 ghost use Rattle.mq_who.specs.Faults.{IsWhoFault};
+ghost use Rattle.mq_who.specs.Made.{most_made};
 
 use crate::asked::Asked;
 use crate::bound::bound_finding;
@@ -30,9 +31,7 @@ fn judged<'a>(judgement: Judgement<'a>) -> Finding<'a>
         Judgement::Fails(difference) => Finding::Fails(difference),
         Judgement::NoneMay(direction) => Finding::NoneMay(direction),
         Judgement::Unnamed(user) => Finding::Unnamed(user),
-        Judgement::Unasked(user) => Finding::Unasked(user),
         Judgement::Refused(direction) => Finding::Refused(direction),
-        Judgement::LeavesOut(user) => Finding::LeavesOut(user),
     }
 }
 
@@ -48,7 +47,8 @@ fn not_judged<'a>(
     ensures fault { (rules : Rules) (steps : ℕ) (claim : Claimed)
         → IsWhoFault rules list.entry.rows.now claim.topics steps fault
         → IfErr result (IsListFault rules list.entry.file.now list.entry.rows.now
-        (length list.entry.rows.now + 1) steps expectation) }
+        (length list.entry.rows.now + most_made rules (length list.entry.rows.now)) steps
+        expectation) }
 {
     let file = list.file;
     match fault {
@@ -76,7 +76,8 @@ fn claim_finding<'a>(
 ) -> Result<Finding<'a>, TestFault<'a>>
     ensures finding { IfOk result (IsClaimed rules list.entry.rows.now (claim_view claim.now)) }
     ensures fault { IfErr result (IsListFault rules list.entry.file.now list.entry.rows.now
-        (length list.entry.rows.now + 1) steps expectation) }
+        (length list.entry.rows.now + most_made rules (length list.entry.rows.now)) steps
+        expectation) }
 {
     match judge_claim(alloc, rules, list.rows, claim, steps) {
         Ok(judgement) => Ok(judged(judgement)),

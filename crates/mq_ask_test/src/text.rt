@@ -13,7 +13,7 @@ use crate::objects::json_lines;
 use crate::verdicts::{Verdict, holding};
 use crate::words::finding_words;
 use mq_acl::{Direction, Rules};
-use mq_ask::add_who_limit;
+use mq_ask::add_limit;
 use mq_ask_cases::{shown_topic, who_text};
 use mq_print::{Escape, Lines, ListText, lines_of, shown_lines};
 use std::alloc::{AllocError, Global};
@@ -63,10 +63,7 @@ fn add_case(alloc: Global, text: &mut String, case: Case<'_>) -> Result<(), Allo
 
 // Whether it is the list that lacks something.
 fn is_of_list(finding: &Finding<'_>) -> bool {
-    matches!(
-        finding,
-        Finding::NoneMay(_) | Finding::Unnamed(_) | Finding::LeavesOut(_)
-    )
+    matches!(finding, Finding::NoneMay(_) | Finding::Unnamed(_))
 }
 
 // Adds why the line doesn't hold.
@@ -164,6 +161,6 @@ pub fn verdicts_text(
         (list_view expectations.entry) verdicts.now (string_bytes text)) }
 {
     let mut text = said(alloc, rules, expectations, lists, verdicts, json)?;
-    add_who_limit(alloc, &mut text, rules, json)?;
+    add_limit(alloc, &mut text, rules, json)?;
     Ok(text)
 }

@@ -1,7 +1,7 @@
 //! Why a line doesn't hold, where no client and topic show it.
 use crate::finding::Finding;
 use mq_acl::Direction;
-use mq_ask::{NOT_ASKED, refused_words};
+use mq_ask::refused_words;
 use mq_expect::ExpectationKind;
 use std::alloc::{AllocError, Global};
 
@@ -46,11 +46,7 @@ pub(crate) fn finding_words(
         Finding::Unnamed(user) => return Ok(Some(format!(in alloc;
             "no line is for user {user:?}"
         )?)),
-        Finding::LeavesOut(user) => {
-            return Ok(Some(format!(in alloc; "user {user}: not asked: {NOT_ASKED}")?));
-        }
         Finding::NoneMay(direction) => none_may(*direction),
-        Finding::Unasked(_) => NOT_ASKED,
         Finding::Refused(direction) => refused_words(*direction),
         Finding::Fault(kind) => fault_words(*kind),
         Finding::LongLevel => LONG_LEVEL,

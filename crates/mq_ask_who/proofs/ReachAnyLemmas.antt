@@ -28,8 +28,8 @@ claimed rows (Some name) wanted = ap (λ b. b && true && true) (text_itself name
 pub none_may : (rules : Rules) (rows : List Row) (user : Option (List ℕ)) (wanted : List ℕ)
     → KeepsTo rules false rows (claim_about user wanted)
     → NoneMayRead rules (row_views rows) user wanted
-none_may rules rows user wanted keeps = λ client topic c u a n asked.
-    keeps Reading client topic user c u a n refl (claimed (row_views rows) user wanted) asked
+none_may rules rows user wanted keeps = λ client topic c u n asked.
+    keeps Reading client topic user c u refl n refl (claimed (row_views rows) user wanted) asked
 
 is_reading : (d : Direction) → grants d Read ≡ true → d ≡ Reading
 is_reading Reading e = refl

@@ -1,20 +1,16 @@
 -- Whether anybody else may.
 use Rattle.std.proofs.Common.{◌≡◌, ◌∙◌, ℕ, Bool, true, false, not, ◌&&◌, ◌||◌, List, [], ◌∷◌, Option}
 use Rattle.std.proofs.Common.{Some, None, get_or, refl, ap, sym, subst, bytes_eq, string_bytes, cond}
-use Rattle.std.proofs.Common.{◌≢◌, inl, inr}
-use Rattle.std.specs.Borrow.{Bor}
-use Rattle.std.specs.List.{filter, list_any}
+use Rattle.std.specs.List.{list_any}
 use Rattle.std.proofs.lemmas.Bool.{and_parts, false_from_ne_true, not-true}
-use Rattle.mq_topic.proofs.ByteLemmas.{text_is, text_itself}
+use Rattle.mq_topic.proofs.ByteLemmas.{text_is}
 use Rattle.mq_acl.specs.AccessLists.{allow_by}
 use Rattle.mq_acl.specs.Rows.{AclRow}
 use Rattle.mq_acl.specs.Views.{row_views}
 use Rattle.mq_acl.specs.declared.access.Direction.{Direction}
 use Rattle.mq_acl.specs.declared.row.Row.{Row}
 use Rattle.mq_acl.specs.declared.rules.Rules.{Rules}
-use Rattle.mq_acl.specs.declared.rules.Rules.TheVariants.{Own, Mosquitto}
 use Rattle.mq_witness.specs.Rows.{is_user_of}
-use Rattle.mq_who.specs.Unasked.{has_text, is_unasked}
 use Rattle.mq_differences.specs.Classes.{is_listed, user_of}
 use Rattle.mq_differences.specs.Differences.{same_direction, same_reason, same_start}
 use Rattle.mq_differences.specs.Reasons.{reason_of}
@@ -27,15 +23,10 @@ use Rattle.mq_who.specs.Who.{IsListing, is_listed_in, is_member}
 use Rattle.mq_who.proofs.ExtentLemmas.{any_weaker, direction_is}
 use Rattle.mq_ask_who.specs.Who.{NoOtherMay, OthersMay, SaysWhetherOthers, has_word, is_kept}
 use Rattle.mq_ask_who.specs.Who.{is_other, is_star, is_shown, is_wanted, means, names}
-use Rattle.mq_ask_who.specs.Who.{AllAreAsked, AreNotAsked, is_kept_user, is_not_asked}
 use Rattle.mq_ask_who.specs.Who.{words_in}
 use Rattle.mq_ask.specs.declared.outcome.Outcome.TheVariants.{Clear, Remark}
 
 -- ---- a client and its class
-and_off : (b : Bool) → (b && false) ≡ false
-and_off true = refl
-and_off false = refl
-
 or_off : (b : Bool) → (b || false) ≡ b
 or_off true = refl
 or_off false = refl
@@ -94,12 +85,12 @@ pub no_other : (rules : Rules) (rows : List Row) (wanted : List ℕ) (access : O
     (only : Option (List ℕ)) (all : List Difference) → IsListing rules true rows wanted all
     → list_any (is_shown access only) all ≡ false
     → NoOtherMay rules (row_views rows) wanted access only
-no_other rules rows wanted access only all l none direction client topic user w c u q v o a =
+no_other rules rows wanted access only all l none direction client topic user w c u v o a =
     false_from_ne_true (allow_by rules (row_views rows) client user topic direction)
     (λ e. let some = any_weaker (is_listed_in rules rows direction client user topic)
     (is_shown access only)
     (λ d t. shown_listed rules rows access only direction client user topic d w o t) all
-    (l.lists direction client topic user c u q v
+    (l.lists direction client topic user c u refl v
     (λ i. not (allowed_open rules (row_views rows) client user topic direction e i) && a i && e i))
     in
     let bad : false ≡ true = sym none ∙ some in cc)
@@ -127,94 +118,16 @@ others_may rules rows wanted access only all l some =
       case = real.case;
     }
 
--- ---- users about whom nothing is asked
--- of a user whom a line names, no word means it just where none names it
-other_user : (rows : List AclRow) (only : Option (List ℕ)) (user : List ℕ)
-    → is_user_of user rows ≡ true → is_other rows only (Some user) ≡ is_kept_user only user
-other_user rows None user named = refl
-other_user rows (Some only) user named =
-    ap (λ b. not (list_any (λ word. cond b (names word user) (is_star word)) (words_in only))) named
-
--- those of some texts that pass a test
-has_filtered : (test : List ℕ → Bool) (users : List (Bor (List ℕ))) (name : List ℕ)
-    → has_text (filter (λ u. test u.now) users) name ≡ (has_text users name && test name)
-has_filtered test [] name = refl
-has_filtered test (u ∷ us) name =
-    at (test u.now) (bytes_eq name u.now) refl refl (has_filtered test us name)
-  where
-    at : (t b : Bool) → test u.now ≡ t → bytes_eq name u.now ≡ b
-        → has_text (filter (λ v. test v.now) us) name ≡ (has_text us name && test name)
-        → has_text (cond t (u ∷ filter (λ v. test v.now) us) (filter (λ v. test v.now) us)) name
-        ≡ ((b || has_text us name) && test name)
-    at true false e f rest = ap (λ b. b || has_text (filter (λ v. test v.now) us) name) f ∙ rest
-    at true true e f rest =
-        ap (λ b. b || has_text (filter (λ v. test v.now) us) name) f
-        ∙ sym (ap test (text_is name u.now f) ∙ e)
-    at false false e f rest = rest
-    at false true e f rest =
-        let fails : test name ≡ false = ap test (text_is name u.now f) ∙ e in
-        rest ∙ ap (λ t. has_text us name && t) fails ∙ and_off (has_text us name) ∙ sym fails
-
-named_of : (rules : Rules) (rows : List AclRow) (name : List ℕ) → is_unasked rules rows name ≡ true
-    → is_user_of name rows ≡ true
-named_of Own rows name e = absurd (let q : false ≡ true = e in cc)
-named_of Mosquitto rows name e =
-    (and_parts (is_user_of name rows) _ e).0
-
--- those that aren't left out are those about whom nothing is asked
-pub not_asked_is : (rules : Rules) (rows : List AclRow) (only : Option (List ℕ))
-    (users : List (Bor (List ℕ))) → ((n : List ℕ) → has_text users n ≡ is_unasked rules rows n)
-    → (name : List ℕ) → has_text (filter (λ u. is_kept_user only u.now) users) name
-    ≡ is_not_asked rules rows only name
-not_asked_is rules rows only users is name =
-    has_filtered (is_kept_user only) users name ∙ ap (λ b. b && is_kept_user only name) (is name)
-    ∙ at (is_unasked rules rows name) refl
-  where
-    at : (b : Bool) → is_unasked rules rows name ≡ b
-        → (b && is_kept_user only name) ≡ (b && is_other rows only (Some name))
-    at false e = refl
-    at true e = sym (other_user rows only name (named_of rules rows name e))
-
-all_asked : (rules : Rules) (rows : List AclRow) (only : Option (List ℕ))
-    (users : List (Bor (List ℕ))) → AreNotAsked rules rows only users → users ≡ []
-    → AllAreAsked rules rows only
-all_asked rules rows only users are none name =
-    sym (are name) ∙ ap (λ all. has_text all name) none
-
-some_user : (users : List (Bor (List ℕ))) → users ≢ []
-    → (name : List ℕ) × (has_text users name ≡ true)
-some_user [] some = absurd (some refl)
-some_user (user ∷ users) some =
-    (user.now, ap (λ b. b || has_text users user.now) (text_itself user.now))
-
 -- ---- what is shown
 pub shown_none : (rules : Rules) (rows : List Row) (wanted : List ℕ) (access : Option Direction)
-    (given : Option (List ℕ)) (only : List ℕ) (all : List Difference) (users : List (Bor (List ℕ)))
-    → given ≡ Some only → IsListing rules true rows wanted all
-    → AreNotAsked rules (row_views rows) given users → users ≡ []
-    → list_any (is_shown access given) all ≡ false
+    (given : Option (List ℕ)) (only : List ℕ) (all : List Difference) → given ≡ Some only
+    → IsListing rules true rows wanted all → list_any (is_shown access given) all ≡ false
     → SaysWhetherOthers rules (row_views rows) wanted access given Clear
-shown_none rules rows wanted access given only all users e l are empty none =
+shown_none rules rows wanted access given only all e l none =
     subst (λ (o : Option (List ℕ)). SaysWhetherOthers rules (row_views rows) wanted access o Clear)
-    (sym e) (
-      no_other rules rows wanted access (Some only) all l
-          (ap (λ (o : Option (List ℕ)). list_any (is_shown access o) all) (sym e) ∙ none),
-      all_asked rules (row_views rows) (Some only) users
-          (subst (λ (o : Option (List ℕ)). AreNotAsked rules (row_views rows) o users) e are) empty,
-    )
-
-pub shown_user : (rules : Rules) (rows : List Row) (wanted : List ℕ) (access : Option Direction)
-    (given : Option (List ℕ)) (only : List ℕ) (users : List (Bor (List ℕ))) → given ≡ Some only
-    → AreNotAsked rules (row_views rows) given users → users ≢ []
-    → SaysWhetherOthers rules (row_views rows) wanted access given Remark
-shown_user rules rows wanted access given only users e are some =
-    let user = some_user users some in
-    subst (λ (o : Option (List ℕ)). SaysWhetherOthers rules (row_views rows) wanted access o Remark)
-    (sym e) (inr (
-      user.0,
-      sym (subst (λ (o : Option (List ℕ)). AreNotAsked rules (row_views rows) o users) e are user.0)
-          ∙ user.1,
-    ))
+    (sym e)
+    (no_other rules rows wanted access (Some only) all l
+    (ap (λ (o : Option (List ℕ)). list_any (is_shown access o) all) (sym e) ∙ none))
 
 pub shown_some : (rules : Rules) (rows : List Row) (wanted : List ℕ) (access : Option Direction)
     (given : Option (List ℕ)) (only : List ℕ) (all : List Difference) → given ≡ Some only
@@ -223,5 +136,5 @@ pub shown_some : (rules : Rules) (rows : List Row) (wanted : List ℕ) (access :
 shown_some rules rows wanted access given only all e l some =
     subst (λ (o : Option (List ℕ)). SaysWhetherOthers rules (row_views rows) wanted access o Remark)
     (sym e)
-    (inl (others_may rules rows wanted access (Some only) all l
-    (ap (λ (o : Option (List ℕ)). list_any (is_shown access o) all) (sym e) ∙ some)))
+    (others_may rules rows wanted access (Some only) all l
+    (ap (λ (o : Option (List ℕ)). list_any (is_shown access o) all) (sym e) ∙ some))

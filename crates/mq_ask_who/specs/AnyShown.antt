@@ -1,9 +1,8 @@
 -- Whether a client with any id can be sent something, as JSON: one object.
 use Rattle.std.specs.Io.KnownBytes.{Appends}
 use Rattle.std.specs.Option.{option_and_then, option_map, option_map_or}
-use Rattle.std.specs.Prelude.{◌≡◌, ◌++◌, ℕ, List, [], Option, codes, map, string_bytes}
+use Rattle.std.specs.Prelude.{ℕ, List, [], Option, codes, map, string_bytes}
 use Rattle.mq_acl.specs.declared.rules.Rules.{Rules}
-use Rattle.mq_ask.specs.Objects.{limit_by}
 use Rattle.mq_ask_who.specs.ReachAny.{IsFoundIn}
 use Rattle.mq_differences.specs.Reasons.{deciding_line}
 use Rattle.mq_differences.specs.declared.difference.Difference.{Difference}
@@ -33,11 +32,9 @@ abbrev pub any_text : ListView → (user : Option (List ℕ)) → (wanted : List
     → (found : Option Difference) → List ℕ
 any_text list user wanted found = object_text (any_members list user wanted found)
 
--- what is written is that of an answer about the list with this text, and for which clients it is
+-- what is written is that of an answer about the list with this text
 pub record IsAnyShown (rules : Rules) (list : ListText) (user : Option (List ℕ)) (wanted : List ℕ)
     (before after : Option (List ℕ)) : Type 0 where
   pub found : Option Difference
   pub is_found : IsFoundIn rules list.text.now user wanted found
-  pub text : List ℕ
-  pub text_is : text ≡ any_text (list_view list) user wanted found ++ limit_by rules
-  pub written : Appends before after text
+  pub written : Appends before after (any_text (list_view list) user wanted found)

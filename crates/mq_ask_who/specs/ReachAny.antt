@@ -14,8 +14,8 @@ use Rattle.mq_differences.specs.Classes.{can_be_user}
 use Rattle.mq_differences.specs.declared.difference.Difference.{Difference}
 use Rattle.mq_expect.specs.Expectations.{Claim, Whom, Anonymous, User}
 use Rattle.mq_expect.specs.declared.expectation.Holds.TheVariants.{Never}
-use Rattle.mq_who.specs.Claims.{IsAgainst, IsUnasked}
-use Rattle.mq_who.specs.Who.{are_asked, is_asked, is_case}
+use Rattle.mq_who.specs.Claims.{IsAgainst}
+use Rattle.mq_who.specs.Who.{is_asked, is_case}
 use Rattle.mq_print.specs.declared.list.ListText.{ListText}
 use Rattle.mq_ask.specs.Lists.{AreRows}
 use Rattle.mq_ask.specs.Failures.{IsListFailure}
@@ -35,11 +35,11 @@ pub record AnyMayRead (rules : Rules) (rows : List AclRow) (user : Option (List 
   pub valid : is_name topic ≡ true
   pub case : is_case rules true rows wanted client user topic Reading ≡ true
 
--- or none may, of those that a broker can have, and that are asked about
+-- or none may, of those that a broker can have
 abbrev pub NoneMayRead : Rules → List AclRow → (user : Option (List ℕ)) → (wanted : List ℕ)
     → Type 0
 NoneMayRead rules rows user wanted = (client topic : List ℕ) → can_be_id client ≡ true
-    → can_be_user user ≡ true → are_asked rules client user ≡ true → is_name topic ≡ true
+    → can_be_user user ≡ true → is_name topic ≡ true
     → is_asked rules wanted client user topic ≡ true
     → allow_by rules rows client user topic Reading ≡ false
 
@@ -83,13 +83,12 @@ pub record IsFoundIn (rules : Rules) (text : List ℕ) (user : Option (List ℕ)
   pub are_rows : AreRows rules text rows
   pub shown : IsFound rules rows user wanted found
 
--- no line of the list is for the user; or by mosquitto's rules nothing is asked about it
+-- no line of the list is for the user
 abbrev pub IsUserFailure : Rules → ListText → (user : Option (List ℕ)) → Failure → Type 0
 IsUserFailure rules list user (failure.NoUser file name) =
     (file.now ≡ list.file.now) × (user ≡ Some name.now)
     × ((rows : List Row) × AreRows rules list.text.now rows
     × (is_user_of name.now (row_views rows) ≡ false))
-IsUserFailure rules list user (failure.UserMark name) = IsUnasked rules (whom_for user) name
 IsUserFailure rules list user other = ⊥
 
 -- what is shown is so

@@ -3,7 +3,6 @@ use Rattle.std.specs.List.{list_any, slice_split, list_all}
 use Rattle.std.specs.Prelude.{◌≡◌, ◌⊎◌, ℕ, Bool, true, false, List, ◌&&◌, ◌==◌, not, Option, Some}
 use Rattle.std.specs.Prelude.{None, Ok, codes, if◌then◌else◌, string_bytes, length, ◌<◌, ◌+◌}
 use Rattle.std.specs.Str.{bytes_eq}
-use denote.Ref.{Bor}
 use Rattle.mq_acl.specs.AccessLists.{allow_by}
 use Rattle.mq_acl.specs.Lines.{is_pattern_level}
 use Rattle.mq_acl.specs.Rows.{AclRow, rows_by}
@@ -24,8 +23,8 @@ use Rattle.mq_differences.specs.declared.class.Class.{Class}
 use Rattle.mq_differences.specs.declared.difference.Difference.{Difference}
 use Rattle.mq_topic.specs.Levels.{levels}
 use Rattle.mq_topic.specs.Texts.{is_filter, is_name, is_shared}
-use Rattle.mq_who.specs.Unasked.{has_text, is_unasked}
-use Rattle.mq_who.specs.Who.{IsListing, are_asked, is_asked, is_case}
+use Rattle.mq_who.specs.Made.{most_made}
+use Rattle.mq_who.specs.Who.{IsListing, is_asked, is_case}
 use Rattle.mq_who.specs.declared.permissions.Permissions.{Permissions}
 use Rattle.mq_witness.specs.Clients.{can_be_id}
 use Rattle.mq_witness.specs.Limits.{has_short_levels}
@@ -94,42 +93,23 @@ pub record OthersMay (rules : Rules) (rows : List AclRow) (wanted : List ℕ)
   pub other : is_other rows only user ≡ true
   pub case : is_case rules true rows wanted client user topic direction ≡ true
 
--- or none may, of those that a broker can have, and that are asked about
+-- or none may, of those that a broker can have
 abbrev pub NoOtherMay : Rules → List AclRow → (wanted : List ℕ) → (access : Option Direction)
     → (only : Option (List ℕ)) → Type 0
 NoOtherMay rules rows wanted access only = (direction : Direction) (client topic : List ℕ)
     (user : Option (List ℕ)) → is_wanted access direction ≡ true → can_be_id client ≡ true
-    → can_be_user user ≡ true → are_asked rules client user ≡ true → is_name topic ≡ true
+    → can_be_user user ≡ true → is_name topic ≡ true
     → is_other rows only user ≡ true → is_asked rules wanted client user topic ≡ true
     → allow_by rules rows client user topic direction ≡ false
 
--- a line names the user, no word means it, and by these rules nothing is asked about it
-abbrev pub is_not_asked : Rules → List AclRow → (only : Option (List ℕ)) → List ℕ → Bool
-is_not_asked rules rows only name = is_unasked rules rows name && is_other rows only (Some name)
-
--- these are such users
-abbrev pub AreNotAsked : Rules → List AclRow → (only : Option (List ℕ)) → List (Bor (List ℕ))
-    → Type 0
-AreNotAsked rules rows only users =
-    (name : List ℕ) → has_text users name ≡ is_not_asked rules rows only name
-
--- there are none
-abbrev pub AllAreAsked : Rules → List AclRow → (only : Option (List ℕ)) → Type 0
-AllAreAsked rules rows only = (name : List ℕ) → is_not_asked rules rows only name ≡ false
-
--- or there is one
-abbrev pub SomeAreNotAsked : Rules → List AclRow → (only : Option (List ℕ)) → Type 0
-SomeAreNotAsked rules rows only = (name : List ℕ) × (is_not_asked rules rows only name ≡ true)
-
--- where some are left out, it is shown whether others may; that none may only where something is asked about each whom a
--- line names
+-- where some are left out, it is shown whether others may
 abbrev pub SaysWhetherOthers : Rules → List AclRow → (wanted : List ℕ)
     → (access : Option Direction) → (only : Option (List ℕ)) → Outcome → Type 0
 SaysWhetherOthers rules rows wanted access None outcome = outcome ≡ Clear
 SaysWhetherOthers rules rows wanted access (Some only) Clear =
-    NoOtherMay rules rows wanted access (Some only) × AllAreAsked rules rows (Some only)
+    NoOtherMay rules rows wanted access (Some only)
 SaysWhetherOthers rules rows wanted access (Some only) Remark =
-    OthersMay rules rows wanted access (Some only) ⊎ SomeAreNotAsked rules rows (Some only)
+    OthersMay rules rows wanted access (Some only)
 
 -- and so is it of the list with this text
 pub record IsWho (rules : Rules) (text wanted : List ℕ) (access : Option Direction)
@@ -152,14 +132,6 @@ abbrev pub is_kept : (only : Option (List ℕ)) → Class → Bool
 is_kept None class = true
 is_kept (Some only) class = not (is_left_out only class)
 
--- one of the words names the user
-abbrev pub is_named : (only user : List ℕ) → Bool
-is_named only user = list_any (λ word. names word user) (words_in only)
-
-abbrev pub is_kept_user : (only : Option (List ℕ)) → List ℕ → Bool
-is_kept_user None user = true
-is_kept_user (Some only) user = not (is_named only user)
-
 -- it is of a direction that is asked of, and of clients that aren't left out
 abbrev pub is_shown : (access : Option Direction) → (only : Option (List ℕ)) → Difference → Bool
 is_shown access only d = is_wanted access d.direction && is_kept only d.class
@@ -168,12 +140,14 @@ is_shown access only d = is_wanted access d.direction && is_kept only d.class
 -- so many steps didn't suffice to know who may by the list with this text; more are enough
 abbrev pub IsFewSteps : Rules → (text : List ℕ) → (steps : ℕ) → Type 0
 IsFewSteps rules text steps =
-    (rows : List Row) × AreRows rules text rows × (steps < enough_steps (length rows + 1))
+    (rows : List Row) × AreRows rules text rows
+    × (steps < enough_steps (length rows + most_made rules (length rows)))
 
 -- and it is the line of a row that was looked at
 abbrev pub IsFewStepsAt : Rules → ListText → (file : List ℕ) → (line steps : ℕ) → Type 0
 IsFewStepsAt rules list file line steps = (rows : List Row) × AreRows rules list.text.now rows
-    × IsRowLine list rows file line × (steps < enough_steps (length rows + 1))
+    × IsRowLine list rows file line
+    × (steps < enough_steps (length rows + most_made rules (length rows)))
 
 -- what is shown of a filter where it is asked who may is so: it is none, or a shared one; a level of it is
 -- too long; by mosquitto's rules a mark is a part of a level; or the steps are spent

@@ -1,22 +1,20 @@
 -- Who may, as JSON: an object for each permission.
 use Rattle.std.specs.Io.KnownBytes.{Appends}
 use Rattle.std.specs.List.{filter, flat_map, list_any}
-use denote.Ref.{Bor}
 use Rattle.std.specs.Prelude.{◌≡◌, ◌++◌, ◌&&◌, ◌==◌, ℕ, Bool, List, [], ◌∷◌, Option, codes, length}
 use Rattle.std.specs.Prelude.{map, not, string_bytes}
 use Rattle.mq_acl.specs.Refused.{refuses}
-use Rattle.mq_acl.specs.Views.{row_views}
 use Rattle.mq_acl.specs.declared.access.Direction.{Direction}
 use Rattle.mq_acl.specs.declared.access.Direction.TheVariants.{Reading, Writing}
 use Rattle.mq_acl.specs.declared.rules.Rules.{Rules}
-use Rattle.mq_ask.specs.Objects.{limit_by, not_asked_texts, refused_texts}
+use Rattle.mq_ask.specs.Objects.{limit_by, refused_texts}
 use Rattle.mq_ask.specs.Words.{access_text}
-use Rattle.mq_ask_who.specs.Who.{AreNotAsked, ArePermissions, is_shown, is_wanted}
+use Rattle.mq_ask_who.specs.Who.{ArePermissions, is_shown, is_wanted}
 use Rattle.mq_differences.specs.Classes.{user_of}
 use Rattle.mq_differences.specs.Differences.{same_class, same_direction}
 use Rattle.mq_differences.specs.Reasons.{deciding_line}
 use Rattle.mq_differences.specs.declared.difference.Difference.{Difference}
-use Rattle.mq_print.specs.Lists.{ListView, lent_texts, list_view, shown_line}
+use Rattle.mq_print.specs.Lists.{ListView, list_view, shown_line}
 use Rattle.mq_print.specs.Objects.{line_data, object_text, text_data}
 use Rattle.mq_print.specs.declared.list.ListText.{ListText}
 use Rattle.mq_who.specs.declared.permissions.Permissions.{Permissions}
@@ -81,13 +79,11 @@ in_direction direction all = filter (λ d. same_direction direction d.direction)
 abbrev pub by_direction : List Difference → List Difference
 by_direction all = in_direction Reading all ++ in_direction Writing all
 
--- an object for each permission, and behind them one for each direction in which the broker refuses by itself, and for
--- each user about whom nothing is asked
+-- an object for each permission, and behind them one for each direction in which the broker refuses by itself
 abbrev pub permissions_text : ListView → (broker : List Direction)
-    → (granted refused : List Difference) → (users : List (List ℕ)) → List ℕ
-permissions_text list broker granted refused users =
-    permission_texts list broker refused (by_direction granted)
-    ++ (refused_texts broker ++ not_asked_texts users)
+    → (granted refused : List Difference) → List ℕ
+permissions_text list broker granted refused =
+    permission_texts list broker refused (by_direction granted) ++ refused_texts broker
 
 -- the directions that are asked of, and in which the broker refuses by itself what the filter names
 abbrev pub refused_directions : Rules → (wanted : List ℕ) → (access : Option Direction)
@@ -103,10 +99,8 @@ pub record IsWhoShown (rules : Rules) (list : ListText) (wanted : List ℕ)
   where
     pub permissions : Permissions
     pub are : ArePermissions rules list.text.now wanted permissions
-    pub users : List (Bor (List ℕ))
-    pub users_are : AreNotAsked rules (row_views are.rows) only users
     pub text : List ℕ
     pub text_is : text ≡ permissions_text (list_view list) (refused_directions rules wanted access)
         (filter (is_shown access only) permissions.granted.items) permissions.refused.items
-        (lent_texts users) ++ limit_by rules
+        ++ limit_by rules
     pub written : Appends before after text

@@ -2,23 +2,23 @@
 ghost use Rattle.std.specs.Prelude.{◌≡◌, ◌++◌, ◌∷◌, [], List, IfOk, None, OnOk, if◌then◌else◌};
 ghost use Rattle.std.specs.Prelude.{map, string_bytes, true};
 ghost use Rattle.mq_acl.specs.declared.access.Direction.TheVariants.{Reading, Writing};
-ghost use Rattle.mq_ask.specs.Objects.{not_asked_texts, refused_texts};
+ghost use Rattle.mq_ask.specs.Objects.{refused_texts};
 ghost use Rattle.mq_ask_who.specs.Refusals.{AreKept};
 ghost use Rattle.mq_ask_who.specs.WhoShown.{by_direction, is_every, is_refused_in};
 ghost use Rattle.mq_ask_who.specs.WhoShown.{permission_text, permission_texts, permissions_text};
 ghost use Rattle.mq_ask_who.specs.WhoShown.{permission_members, refusal_data};
 ghost use Rattle.mq_differences.specs.Differences.{same_direction};
 ghost use Rattle.mq_differences.specs.declared.difference.Difference.{Difference};
-ghost use Rattle.mq_print.specs.Lists.{lent_texts, lines_view, list_view};
+ghost use Rattle.mq_print.specs.Lists.{lines_view, list_view};
 ghost use Rattle.mq_print.specs.Objects.{exception_data, with_data};
 ghost use Rattle.serde_json.specs.Data.{no_members};
 
 use crate::permission_rows::{AskedOf, PermissionRow, PermissionRows};
 use crate::refusals::Refusals;
-use mq_acl::{Direction, Row};
-use mq_ask::{access_word, add_not_asked, add_not_asked_json, add_refused, add_refused_json};
+use mq_acl::{Direction, Row, Rules};
+use mq_ask::{access_word, add_refused, add_refused_json};
 use mq_ask_cases::{
-    ScriptTraffic, Side, add_counts, add_pattern, add_who, has_wildcard, publishes_text,
+    ScriptTraffic, Side, add_counts, add_pattern, add_who, has_wildcard, marks_of, publishes_text,
 };
 use mq_differences::{Difference, same_direction};
 use mq_print::{
@@ -33,6 +33,8 @@ use std::alloc::{AllocError, Global};
 pub struct ListTraffic<'a> {
     /// The publishes.
     pub script: ScriptTraffic<'a>,
+    /// By whose rules the list is asked.
+    pub rules: Rules,
     /// The rows.
     pub rows: &'a [Row],
 }
@@ -48,32 +50,30 @@ impl<'a> ListTraffic<'a> {
     ) -> Result<Publishes, AllocError> {
         let asked = TopicPattern {
             filter,
-            has_marks: true,
+            marks: marks_of(self.rules),
         };
         let mut patterns = vec![in alloc; asked]?;
-        add_pattern(&mut patterns, self.rows, granted.old_reason)?;
+        add_pattern(&mut patterns, self.rules, self.rows, granted.old_reason)?;
         Ok(self.script.traffic.matched(&patterns))
     }
 }
 
 /// What is asked of a list.
 #[derive(Clone, Copy, Drop)]
-pub struct Asked<'a> {
+pub struct Asked<'a, 's> {
     /// The topic filter.
     pub filter: &'a str,
     /// Whether it is of reading or of writing alone.
     pub access: Option<Direction>,
     /// Whether some users are left out.
     pub of_others: bool,
-    /// Users whom lines name, who aren't left out, and about whom nothing is asked.
-    pub not_asked: &'a [&'a str],
     /// The directions in which the broker refuses by itself topics that the filter names.
-    pub refused: &'a [Direction],
+    pub refused: &'s [Direction],
     /// What the publishes of a script are counted by, if they are.
-    pub traffic: Option<ListTraffic<'a>>,
+    pub traffic: Option<ListTraffic<'s>>,
 }
 
-impl Asked<'_> {
+impl Asked<'_, '_> {
     // Whether the broker refuses by itself topics that the filter names.
     fn refuses(self, direction: Direction) -> bool
         ensures { result ≡ is_refused_in self.entry.refused.now direction }
@@ -118,7 +118,7 @@ fn exceptions<'a>(
 }
 
 // Whether nothing else of what is asked about isn't allowed.
-fn is_every(asked: Asked<'_>, granted: &Difference, refused: &[Difference]) -> bool
+fn is_every(asked: Asked<'_, '_>, granted: &Difference, refused: &[Difference]) -> bool
     ensures { result ≡ is_every asked.entry.refused.now refused.now granted.now }
 {
     refused.is_empty() && !asked.refuses(granted.direction)
@@ -151,7 +151,7 @@ fn permission_data<'d>(
 fn add_json<'a>(
     alloc: Global,
     text: &mut String,
-    asked: Asked<'a>,
+    asked: Asked<'a, 'a>,
     list: Lines<'a, 'a, 'a>,
     granted: &'a Difference,
     refused: &'a [Difference],
@@ -172,7 +172,7 @@ fn add_json<'a>(
 
 fn json_lines<'a>(
     alloc: Global,
-    asked: Asked<'a>,
+    asked: Asked<'a, 'a>,
     list: Lines<'a, 'a, 'a>,
     granted: &'a [Difference],
     refusals: &'a Refusals,
@@ -180,8 +180,7 @@ fn json_lines<'a>(
     ensures { (refused : List Difference) → AreKept refused refusals.entry.now
         → IfOk result (λ text. asked.entry.traffic ≡ None → string_bytes text
         ≡ permission_texts (lines_view list.entry) asked.entry.refused.now refused granted.entry.now
-        ++ (refused_texts asked.entry.refused.now
-        ++ not_asked_texts (lent_texts asked.entry.not_asked.now))) }
+        ++ refused_texts asked.entry.refused.now) }
 {
     let mut text = String::new(alloc);
     for one in granted {
@@ -189,14 +188,13 @@ fn json_lines<'a>(
         add_json(alloc, &mut text, asked, list, one, refused)?;
     }
     add_refused_json(alloc, &mut text, asked.refused)?;
-    add_not_asked_json(alloc, &mut text, asked.not_asked)?;
     Ok(text)
 }
 
 fn rows_of<'a>(
     alloc: Global,
     list: Lines<'a, 'a, 'a>,
-    asked: Asked<'a>,
+    asked: Asked<'a, 'a>,
     granted: &'a [Difference],
     refusals: &'a Refusals,
 ) -> Result<PermissionRows<'a>, AllocError> {
@@ -213,7 +211,7 @@ fn rows_of<'a>(
     Ok(rows)
 }
 
-fn widths_of(asked: Asked<'_>, rows: &[PermissionRow<'_>]) -> Widths {
+fn widths_of(asked: Asked<'_, '_>, rows: &[PermissionRow<'_>]) -> Widths {
     let mut widths = Widths {
         access: 0,
         topic: 0,
@@ -261,7 +259,7 @@ fn add_row(text: &mut String, row: &PermissionRow<'_>, widths: Widths) -> Result
 fn add_publishes(
     alloc: Global,
     text: &mut String,
-    asked: Asked<'_>,
+    asked: Asked<'_, '_>,
     row: &PermissionRow<'_>,
     widths: Widths,
 ) -> Result<(), AllocError> {
@@ -280,7 +278,7 @@ fn add_publishes(
 
 fn table(
     alloc: Global,
-    asked: Asked<'_>,
+    asked: Asked<'_, '_>,
     rows: &[PermissionRow<'_>],
 ) -> Result<String, AllocError> {
     let widths = widths_of(asked, rows);
@@ -294,15 +292,10 @@ fn table(
     Ok(text)
 }
 
-// That none may; where nothing is asked about some, that none of the others may.
-fn nobody(alloc: Global, asked: Asked<'_>) -> Result<String, AllocError> {
+// That none may, or none but those that are left out.
+fn nobody(alloc: Global, asked: Asked<'_, '_>) -> Result<String, AllocError> {
     let filter = asked.filter;
-    let other = match (asked.of_others, asked.not_asked.is_empty()) {
-        (false, true) => "",
-        (true, true) => "else ",
-        (false, false) => "who is asked about ",
-        (true, false) => "else who is asked about ",
-    };
+    let other = if asked.of_others { "else " } else { "" };
     let access = match asked.access {
         Some(direction) => access_word(direction),
         None => "read or write",
@@ -344,7 +337,7 @@ fn by_direction(alloc: Global, granted: Vec<Difference>) -> Result<Vec<Differenc
 fn words<'a>(
     alloc: Global,
     list: Lines<'a, 'a, 'a>,
-    asked: Asked<'a>,
+    asked: Asked<'a, 'a>,
     granted: &'a [Difference],
     refusals: &'a Refusals,
 ) -> Result<String, AllocError> {
@@ -356,7 +349,6 @@ fn words<'a>(
         table(alloc, asked, rows.as_slice())?
     };
     add_refused(&mut text, asked.refused)?;
-    add_not_asked(&mut text, asked.not_asked)?;
     shown_lines(alloc, text.as_str(), Escape::Words)
 }
 
@@ -365,14 +357,14 @@ fn words<'a>(
 pub fn permissions_text(
     alloc: Global,
     list: ListText<'_, '_>,
-    asked: Asked<'_>,
+    asked: Asked<'_, '_>,
     granted: Vec<Difference>,
     refused: Vec<Difference>,
     json: bool,
 ) -> Result<String, AllocError>
     ensures { IfOk result (λ text. json ≡ true → asked.entry.traffic ≡ None → string_bytes text
         ≡ permissions_text (list_view list.entry) asked.entry.refused.now granted.items
-        refused.items (lent_texts asked.entry.not_asked.now)) }
+        refused.items) }
 {
     let granted = by_direction(alloc, granted)?;
     let refusals = Refusals::new(alloc, refused)?;

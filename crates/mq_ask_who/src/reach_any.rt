@@ -4,9 +4,7 @@ ghost use Rattle.std.specs.Prelude.{◌≡◌, ℕ, List, Option, IfOk, IfErr, O
 ghost use Rattle.mq_acl.specs.Views.{row_views};
 ghost use Rattle.mq_acl.specs.declared.row.Row.{Row};
 ghost use Rattle.mq_acl.specs.declared.rules.Rules.{Rules};
-ghost use Rattle.mq_acl.specs.declared.rules.Rules.TheVariants.{Mosquitto};
 ghost use Rattle.mq_ask.specs.Lists.{AreRows};
-ghost use Rattle.mq_ask.specs.Notes.{SaysLimit};
 ghost use Rattle.mq_ask.specs.Statuses.{failure_status};
 ghost use Rattle.mq_ask_who.specs.AnyShown.{IsAnyShown};
 ghost use Rattle.mq_ask_who.specs.ReachAny.{IsAnyFailure, IsFound, IsFoundIn, IsReachedByAny};
@@ -16,7 +14,7 @@ ghost use Rattle.mq_expect.specs.Views.{claim_view, whom_view};
 use crate::any_client::any_text;
 use crate::who::{filter_of, who_failure};
 use mq_acl::{Access, Row, Rules};
-use mq_ask::{Failure, Options, Outcome, add_who_limit, print_outcome, rows_in};
+use mq_ask::{Failure, Options, Outcome, print_outcome, rows_in};
 use mq_differences::Difference;
 use mq_expect::{Claim, Holds, Whom};
 use mq_print::ListText;
@@ -68,15 +66,9 @@ fn found_in<'a>(
     match judge_claim(alloc, rules, rows, &claim, steps) {
         Ok(Judgement::Fails(found)) => Ok(Some(found)),
         Ok(Judgement::Unnamed(user)) => Err(Failure::NoUser { file, user }),
-        Ok(Judgement::Unasked(user)) => Err(Failure::UserMark(user)),
-        // That none may is only said of a line with `may some`, that somebody is left out of one about
-        // anyone, and that the broker refuses it of one with `may`.
-        Ok(
-            Judgement::Holds
-            | Judgement::NoneMay(_)
-            | Judgement::LeavesOut(_)
-            | Judgement::Refused(_),
-        ) => Ok(None),
+        // That none may is only said of a line with `may some`, and that the broker refuses it of one
+        // with `may`.
+        Ok(Judgement::Holds | Judgement::NoneMay(_) | Judgement::Refused(_)) => Ok(None),
         Err(fault) => Err(who_failure(rules, list, rows, about.1, fault)),
     }
 }
@@ -115,7 +107,7 @@ fn outcome_of(found: &Option<Difference>) -> Outcome
 }
 
 /// Shows a client with this user name, or without one, and a topic that the filter matches and that
-/// it can be sent, or that none of them can be sent anything; and last for which clients that is.
+/// it can be sent, or that none of them can be sent anything.
 pub fn show_reach_any<'a, W: Write>(
     alloc: Global,
     list: ListText<'a, '_>,
@@ -127,15 +119,12 @@ pub fn show_reach_any<'a, W: Write>(
     ensures ok { IfOk result (IsReachedByAny options.rules list.entry.text.now
         (option_copied user.entry) wanted.entry.now) }
     ensures unread { IfErr result (λ failure. failure_status failure ≡ 2 → out.new ≡ out.old) }
-    ensures limited { OnOk result (options.rules ≡ Mosquitto → options.json ≡ false
-        → SaysLimit (W.contents out.old) (W.contents out.new)) }
     ensures json { OnOk result (options.json ≡ true
         → IsAnyShown options.rules list.entry (option_copied user.entry) wanted.entry.now
         (W.contents out.old) (W.contents out.new)) }
 {
     let found = find_any(alloc, options.rules, list, user, wanted, options.steps)?;
     let outcome = outcome_of(&found);
-    let mut text = any_text(alloc, list, (user, wanted), found.as_ref(), options.json)?;
-    add_who_limit(alloc, &mut text, options.rules, options.json)?;
+    let text = any_text(alloc, list, (user, wanted), found.as_ref(), options.json)?;
     print_outcome(out, Ok(text), outcome)
 }

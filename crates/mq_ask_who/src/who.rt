@@ -14,23 +14,21 @@ ghost use Rattle.mq_ask.specs.Notes.{SaysLimit};
 ghost use Rattle.mq_ask.specs.Statuses.{failure_status};
 ghost use Rattle.mq_ask_who.specs.Who.{IsWhoFailure, ArePermissions, IsWho, SaysWhetherOthers};
 ghost use Rattle.mq_ask_who.specs.Who.{has_word, is_kept, is_left_out, is_shown, is_unshared};
-ghost use Rattle.mq_ask_who.specs.Who.{AreNotAsked, is_kept_user, is_not_asked, is_wanted};
-ghost use Rattle.mq_ask_who.specs.Who.{is_named, names};
+ghost use Rattle.mq_ask_who.specs.Who.{is_wanted, names};
 ghost use Rattle.mq_ask_who.specs.WhoShown.{IsWhoShown, permissions_text};
-ghost use Rattle.mq_print.specs.Lists.{lent_texts, list_view};
+ghost use Rattle.mq_print.specs.Lists.{list_view};
 ghost use Rattle.mq_topic.specs.Texts.{is_shared};
 ghost use Rattle.mq_who.specs.Faults.{IsWhoFault};
-ghost use Rattle.mq_who.specs.Unasked.{has_text};
 ghost use Rattle.mq_who.specs.Who.{IsListing};
 
 use crate::permissions::{Asked, ListTraffic, permissions_text};
 use mq_acl::{Direction, Row, Rules, refuses_filter};
-use mq_ask::{Failure, Options, Outcome, Selection, add_who_limit, print_outcome, rows_in};
+use mq_ask::{Failure, Options, Outcome, Selection, add_limit, print_outcome, rows_in};
 use mq_ask_cases::ScriptTraffic;
 use mq_differences::{Class, Difference};
 use mq_print::ListText;
 use mq_topic::{TopicFault, TopicFilter};
-use mq_who::{Permissions, WhoFault, unasked_users, who_may};
+use mq_who::{Permissions, WhoFault, who_may};
 use std::alloc::{AllocError, Global};
 use std::io::Write;
 use std::mem;
@@ -162,56 +160,10 @@ fn has_shown(granted: &[Difference], selection: &Selection<'_>) -> bool
     granted.iter().any(|d| is_shown(selection, d))
 }
 
-// Whether one of the words between commas names the user.
-fn is_named(only: &str, user: &str) -> bool
-    ensures { result ≡ is_named only.now user.now }
-{
-    only.split(',').any(|word| names(word, user))
-}
-
-fn is_kept_user(only: Option<&str>, user: &str) -> bool
-    ensures { result ≡ is_kept_user (option_copied only.entry) user.now }
-{
-    match only {
-        None => true,
-        Some(only) => !is_named(only, user),
-    }
-}
-
-// Those of the users that aren't left out.
-fn kept_users<'u>(
-    alloc: Global,
-    users: Vec<&'u str>,
-    only: Option<&str>,
-) -> Result<Vec<&'u str>, AllocError>
-    ensures { IfOk result (λ kept. kept.items
-        ≡ filter (λ user. is_kept_user (option_copied only.entry) user.now) users.entry.items) }
-{
-    users
-        .into_iter()
-        .filter(|user| is_kept_user(only, *user))
-        .collect(alloc)
-}
-
-// The users whom the list names, who aren't left out, and about whom nothing is asked.
-fn not_asked<'r>(
-    alloc: Global,
-    rules: Rules,
-    rows: &'r [Row],
-    only: Option<&str>,
-) -> Result<Vec<&'r str>, AllocError>
-    ensures { IfOk result (λ users. (name : List ℕ) → has_text users.items name
-        ≡ is_not_asked rules (row_views rows.entry.now) (option_copied only.entry) name) }
-{
-    let users = unasked_users(alloc, rules, rows)?;
-    kept_users(alloc, users, only)
-}
-
-// Whether anybody may that isn't left out, where some are, or nothing is asked about somebody.
-fn outcome_of(granted: &[Difference], selection: &Selection<'_>, users: &[&str]) -> Outcome
+// Whether anybody may that isn't left out, where some are.
+fn outcome_of(granted: &[Difference], selection: &Selection<'_>) -> Outcome
     ensures { (rules : Rules) (rows : List Row) (wanted : List ℕ)
         → IsListing rules true rows wanted granted.now
-        → AreNotAsked rules (row_views rows) (option_copied selection.now.only) users.now
         → SaysWhetherOthers rules (row_views rows) wanted selection.now.access
         (option_copied selection.now.only) result }
 {
@@ -221,10 +173,7 @@ fn outcome_of(granted: &[Difference], selection: &Selection<'_>, users: &[&str])
     if has_shown(granted, selection) {
         return Outcome::Remark;
     }
-    if users.is_empty() {
-        return Outcome::Clear;
-    }
-    Outcome::Remark
+    Outcome::Clear
 }
 
 // Whether it is asked of the direction, and in it the broker refuses by itself what the filter names.
@@ -279,7 +228,7 @@ fn shown(
 fn answer_text(
     alloc: Global,
     list: ListText<'_, '_>,
-    asked: Asked<'_>,
+    asked: Asked<'_, '_>,
     selection: &Selection<'_>,
     permissions: Permissions,
     json: bool,
@@ -288,7 +237,7 @@ fn answer_text(
         ≡ permissions_text (list_view list.entry) asked.entry.refused.now
         (filter (is_shown selection.now.access (option_copied selection.now.only))
         permissions.granted.items)
-        permissions.refused.items (lent_texts asked.entry.not_asked.now)) }
+        permissions.refused.items) }
 {
     let mut permissions = permissions;
     let granted = mem::replace(&mut permissions.granted, Vec::new(alloc));
@@ -319,10 +268,10 @@ pub fn show_who<'a, W: Write>(
 {
     let permissions = find_permissions(alloc, options.rules, list, wanted, options.steps)?;
     let rows = rows_in(alloc, options.rules, list)?;
-    let users = not_asked(alloc, options.rules, &rows, selection.only)?;
-    let outcome = outcome_of(&permissions.granted, &selection, &users);
+    let outcome = outcome_of(&permissions.granted, &selection);
     let traffic = script.map(|script| ListTraffic {
         script,
+        rules: options.rules,
         rows: &rows,
     });
     let filter = filter_of(alloc, wanted)?;
@@ -331,11 +280,10 @@ pub fn show_who<'a, W: Write>(
         filter: wanted,
         access: selection.access,
         of_others: selection.only.is_some(),
-        not_asked: &users,
         refused: &refused,
         traffic,
     };
     let mut text = answer_text(alloc, list, asked, &selection, permissions, options.json)?;
-    add_who_limit(alloc, &mut text, options.rules, options.json)?;
+    add_limit(alloc, &mut text, options.rules, options.json)?;
     print_outcome(out, Ok(text), outcome)
 }

@@ -30,7 +30,7 @@ impl Start {
     }
 
     /// Whether a name may go on with this level.
-    pub(crate) fn fits(self, level: &str) -> bool
+    pub fn fits(self, level: &str) -> bool
         ensures { result ≡ fits_start self level.now }
     {
         match self {

@@ -6,8 +6,8 @@ use Rattle.mq_acl.specs.Rows.{Who, Anonymous, Named, Everyone}
 use Rattle.mq_acl.specs.RowsByOwner.{is_everyones}
 use Rattle.mq_acl.specs.RowsByOwner as acl_rows
 use Rattle.mq_acl.specs.Views.{row_who}
-use Rattle.mq_witness.specs.declared.clients.Clients.{Clients}
-use Rattle.mq_witness.specs.declared.clients.Clients.TheVariants as clients
+use Rattle.mq_shapes.specs.declared.clients.Clients.{Clients}
+use Rattle.mq_shapes.specs.declared.clients.Clients.TheVariants as clients
 use Rattle.mq_differences.specs.ByOwner.{IsGrouped, is_own, own_rows}
 use Rattle.mq_differences.specs.declared.by_owner.ByOwner.{ByOwner}
 use Rattle.mq_differences.specs.declared.marks.Marked.{Marked}

@@ -17,12 +17,11 @@ use Rattle.mq_acl.specs.declared.access.Direction.{Direction}
 use Rattle.mq_acl.specs.declared.access.Direction.TheVariants.{Reading, Writing}
 use Rattle.mq_acl.specs.declared.row.Row.{Row}
 use Rattle.mq_witness.specs.Asked.{AskedRows, is_client_of}
-use Rattle.mq_witness.specs.Ruled.{are_asked_of}
 use Rattle.mq_witness.specs.Clients.{can_be_id}
 use Rattle.mq_witness.specs.Literals.{is_among}
 use Rattle.mq_witness.specs.Rows.{is_user_of}
-use Rattle.mq_witness.specs.declared.clients.Clients.{Clients}
-use Rattle.mq_witness.specs.declared.clients.Clients.TheVariants as clients
+use Rattle.mq_shapes.specs.declared.clients.Clients.{Clients}
+use Rattle.mq_shapes.specs.declared.clients.Clients.TheVariants as clients
 use Rattle.mq_witness.specs.declared.topics.Topics.TheVariants.{Open}
 use Rattle.mq_differences.specs.ByOwner.{IsGrouped, is_for}
 use Rattle.mq_differences.specs.Changes.{ShowsChangesIn, ShowsChangesOf}
@@ -33,7 +32,7 @@ use Rattle.mq_differences.specs.declared.fault.ComparisonFault.TheVariants as co
 use Rattle.mq_differences.specs.declared.fault.Side.TheVariants.{Old, New}
 use Rattle.mq_differences.specs.Classes.{can_be_user}
 use Rattle.mq_differences.specs.Differences.{AreMarked, AreUnnamed, IsKnown, IsMarked, IsReal}
-use Rattle.mq_differences.specs.Differences.{ShowsOthers, ShowsAll, is_change, is_compared}
+use Rattle.mq_differences.specs.Differences.{ShowsOthers, ShowsAll, is_change}
 use Rattle.mq_differences.specs.Differences.{is_shown_of}
 use Rattle.mq_differences.specs.Marks.{ArePlaced, IsKept, rows_of}
 use Rattle.mq_differences.specs.Questions.{AreJudges, AreRowsFor, HasDenies, IsList, IsPoint}
@@ -127,9 +126,9 @@ shows_kept lists c way direction before after g t client topic user p e =
 user_kept : (lists : Lists) (user : Option (List ℕ)) (before after : List Difference)
     → Grows lists.old.now lists.new.now lists.asked before after
     → ShowsChangesOf lists user before → ShowsChangesOf lists user after
-user_kept lists user before after g t way direction client topic c u a v e =
+user_kept lists user before after g t way direction client topic c u v e =
     g.kept (is_shown_of lists.asked.rules lists.old.now lists.new.now way direction client user topic)
-    (t way direction client topic c u a v e)
+    (t way direction client topic c u v e)
 
 -- both ways, and both directions
 pub shows_ways : (lists : Lists) (c : Clients) (direction : Direction) (shown : List Difference)
@@ -157,20 +156,18 @@ changed_open rules Lost old new client user topic direction e =
     allowed_open rules old client user topic direction
     (and_parts (allow_by rules old client user topic direction) _ e).0
 
--- ---- whom they are compared for
--- a client that they are compared for is one that questions are about
+-- ---- the clients
+-- a client that a broker can have is one that questions are about
 point : (lists : Lists) {c : Clients} (way : Way) (direction : Direction) (client : List ℕ)
     (user : Option (List ℕ)) (topic : List ℕ) → lists.asked.rows ≡ row_views lists.old.now ++ row_views lists.new.now
     → can_be_id client ≡ true → is_client_of lists.asked c user ≡ true
-    → is_compared lists.asked.rules lists.old.now lists.new.now client user ≡ true
     → is_name topic ≡ true
     → is_change lists.asked.rules way (row_views lists.old.now) (row_views lists.new.now) client
     user topic direction ≡ true → IsPoint (Open direction) lists.asked c client user topic
-point lists way direction client user topic is c u a v e = record {
+point lists way direction client user topic is c u v e = record {
   is_asked = record {
     client_fits = c;
     user_fits = u;
-    are_asked = ap (λ rs. are_asked_of lists.asked.rules rs client user) is ∙ a;
   };
   valid = v;
   taken = changed_open lists.asked.rules way (row_views lists.old.now) (row_views lists.new.now)
@@ -197,10 +194,10 @@ pub shows_user : (lists : Lists) (name : Bor (List ℕ)) (shown : List Differenc
     → ((way : Way) (direction : Direction)
     → ShowsChangesIn lists (clients.Named name) way direction shown)
     → ShowsChangesOf lists (Some name.now) shown
-shows_user lists name shown is t way direction client topic c u a v e =
+shows_user lists name shown is t way direction client topic c u v e =
     t way direction client topic (Some name.now)
     (point lists way direction client (Some name.now) topic is c (rw (text_itself name.now, u) refl)
-    a v e) e
+    v e) e
 
 pub users_one : (lists : Lists) (names : List (Bor (List ℕ))) (n : ℕ) (name : Bor (List ℕ))
     (first shown more : List Difference) → n < length names → name ≡ get_or names n name
@@ -262,15 +259,14 @@ pub shows_all_clients : (lists : Lists) (anonymous users shown : List Difference
     → ((way : Way) (direction : Direction)
     → ShowsChangesIn lists clients.Others way direction shown)
     → ShowsAll lists.asked.rules lists.old.now lists.new.now shown
-shows_all_clients lists anonymous users shown is g h n u o way direction client topic None c f a v e =
+shows_all_clients lists anonymous users shown is g h n u o way direction client topic None c f v e =
     let p = is_shown_of lists.asked.rules lists.old.now lists.new.now way direction client None
     topic
     in
     h.kept p (g.kept p (n way direction client topic None
-    (point lists way direction client None topic is c refl a v e) e))
+    (point lists way direction client None topic is c refl v e) e))
 shows_all_clients lists anonymous users shown is g h n u o way direction client topic
-    (Some name) c f
-    a v e =
+    (Some name) c f v e =
     at (is_user_of name lists.asked.rows) refl
   where
     at : (b : Bool) → is_user_of name lists.asked.rows ≡ b
@@ -278,10 +274,10 @@ shows_all_clients lists anonymous users shown is g h n u o way direction client 
         (Some name) topic) shown ≡ true
     at true k =
         h.kept (is_shown_of lists.asked.rules lists.old.now lists.new.now way direction client
-        (Some name) topic) (u name k way direction client topic c f a v e)
+        (Some name) topic) (u name k way direction client topic c f v e)
     at false k =
         o way direction client topic (Some name)
-        (point lists way direction client (Some name) topic is c (rw (f, k) refl) a v e) e
+        (point lists way direction client (Some name) topic is c (rw (f, k) refl) v e) e
 
 -- ---- the answer
 pub report_none : (old new : List Row) (asked : AskedRows) (shown : List Difference) → shown ≡ []
@@ -298,6 +294,7 @@ pub report_marked : (old new : List Row) (asked : AskedRows) (shown : List Diffe
     → AreMarked asked.rules old new shown
 report_marked old new asked shown is r = record {
   asked = asked;
+  rules_are = refl;
   rows = is;
   marked = All-weaker (IsSound old new asked) (IsMarked asked) (λ d s. s.marked) shown r.sound;
   unnamed = All-weaker (IsSound old new asked) (AreUnnamed asked) (λ d s. s.unnamed) shown r.sound;
@@ -315,15 +312,15 @@ report_real old new asked shown r =
 pub same_allowed : (rules : Rules) (old new : List Row) (shown : List Difference)
     → ShowsAll rules old new shown → shown ≡ [] → (client topic : List ℕ) (user : Option (List ℕ))
     (direction : Direction) → can_be_id client ≡ true → can_be_user user ≡ true
-    → is_compared rules old new client user ≡ true → is_name topic ≡ true
+    → is_name topic ≡ true
     → allow_by rules (row_views old) client user topic direction
     ≡ allow_by rules (row_views new) client user topic direction
-same_allowed rules old new shown t e client topic user direction c f a v =
+same_allowed rules old new shown t e client topic user direction c f v =
     let none = subst (ShowsAll rules old new) e t in
     at (allow_by rules (row_views old) client user topic direction)
     (allow_by rules (row_views new) client user topic direction)
-    (none Gained direction client topic user c f a v)
-    (none Lost direction client topic user c f a v)
+    (none Gained direction client topic user c f v)
+    (none Lost direction client topic user c f v)
   where
     at : (a b : Bool) → ((b && not a) ≡ true → false ≡ true) → ((a && not b) ≡ true → false ≡ true)
         → a ≡ b

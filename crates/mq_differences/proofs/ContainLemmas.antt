@@ -9,7 +9,7 @@ use Rattle.mq_acl.specs.Rows.{AclRow}
 use Rattle.mq_acl.specs.Views.{line_views, owner_view, row_view, row_views}
 use Rattle.mq_acl.specs.declared.access.Direction.{Direction}
 use Rattle.mq_acl.specs.declared.rules.Rules.{Rules}
-use Rattle.mq_witness.specs.declared.clients.Clients.{Clients}
+use Rattle.mq_shapes.specs.declared.clients.Clients.{Clients}
 use Rattle.mq_acl.specs.declared.row.Row.{Row}
 use Rattle.mq_differences.specs.ByOwner.{is_for}
 use Rattle.mq_differences.specs.Faults.{rows_of as rows_on}

@@ -13,7 +13,7 @@ use Rattle.mq_acl.specs.declared.access.Direction.{Direction}
 use Rattle.mq_acl.specs.declared.row.Row.{Row}
 use Rattle.mq_acl.specs.declared.rules.Rules.{Rules}
 use Rattle.mq_witness.specs.Ruled.{decides_by}
-use Rattle.mq_witness.specs.declared.clients.Clients.{Clients}
+use Rattle.mq_shapes.specs.declared.clients.Clients.{Clients}
 use Rattle.mq_differences.specs.Differences.{is_change, is_gained}
 use Rattle.mq_differences.specs.Marks.{views_of}
 use Rattle.mq_differences.specs.Questions.{AreJudges, IsBefore, IsGain, IsPoint, IsQuestion}

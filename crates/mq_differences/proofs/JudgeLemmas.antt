@@ -12,7 +12,7 @@ use Rattle.mq_acl.specs.Views.{owner_view, row_view, row_views}
 use Rattle.mq_acl.specs.declared.access.Direction.{Direction}
 use Rattle.mq_acl.specs.declared.row.Row.{Row}
 use Rattle.mq_acl.specs.declared.rules.Rules.{Rules}
-use Rattle.mq_witness.specs.declared.clients.Clients.{Clients}
+use Rattle.mq_shapes.specs.declared.clients.Clients.{Clients}
 use Rattle.mq_differences.specs.ByOwner.{is_for}
 use Rattle.mq_differences.specs.Marks.{rows_of, views_of}
 use Rattle.mq_differences.specs.Questions.{AreJudges, IsSplit, rows_for}

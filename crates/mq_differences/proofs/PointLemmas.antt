@@ -20,8 +20,8 @@ use Rattle.mq_acl.specs.declared.rules.Rules.TheVariants.{Own, Mosquitto}
 use Rattle.mq_witness.specs.Asked.{AskedRows, IsListed, is_client_of, user_view}
 use Rattle.mq_witness.specs.Clients.{can_be_id}
 use Rattle.mq_witness.specs.Rows.{is_name_of, is_user_of}
-use Rattle.mq_witness.specs.declared.clients.Clients.{Clients}
-use Rattle.mq_witness.specs.declared.clients.Clients.TheVariants as clients
+use Rattle.mq_shapes.specs.declared.clients.Clients.{Clients}
+use Rattle.mq_shapes.specs.declared.clients.Clients.TheVariants as clients
 use Rattle.mq_differences.specs.ByOwner.{is_for}
 use Rattle.mq_differences.specs.Classes.{can_be_user, is_in, is_listed, user_of}
 use Rattle.mq_differences.specs.Questions.{class_of}

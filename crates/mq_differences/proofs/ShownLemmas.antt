@@ -11,12 +11,19 @@ use Rattle.mq_acl.specs.Refused.{refuses}
 use Rattle.mq_acl.specs.Views.{row_views}
 use Rattle.mq_acl.specs.declared.access.Direction.{Direction}
 use Rattle.mq_acl.specs.declared.access.Direction.TheVariants.{Reading, Writing}
-use Rattle.mq_witness.specs.Asked.{AreKnown, Knows, user_view}
-use Rattle.mq_witness.specs.Ruled.{ShowsBy, StandsBy, decides_by}
+use Rattle.mq_acl.specs.declared.rules.Rules.{Rules}
+use Rattle.mq_acl.specs.declared.rules.Rules.TheVariants.{Own, Mosquitto}
+use Rattle.mq_cover.specs.Remainders.{mark_passes}
+use Rattle.mq_shapes.specs.Swaps.{swap_levels}
+use Rattle.mq_shapes.specs.Swaps as leveled
+use Rattle.mq_witness.specs.Asked.{user_view}
+use Rattle.mq_witness.specs.Clients.{can_be_id}
+use Rattle.mq_witness.specs.Ruled.{AreKnownBy, KnowsBy, ShowsBy, StandBy, StandsBy, decides_by}
+use Rattle.mq_witness.specs.Ruled.{IsShownBy as IsShown}
 use Rattle.mq_witness.specs.Swaps.{swap, swap_name, swap_user}
 use Rattle.mq_witness.specs.declared.witness.Witness.{Witness}
 use Rattle.mq_differences.specs.Classes.{is_in, user_of}
-use Rattle.mq_differences.specs.Differences.{AreUnnamed, IsMarked, Shows, is_change, same_direction}
+use Rattle.mq_differences.specs.Differences.{AreUnnamed, IsMarked, Shows, ShowsOthers, is_change, same_direction}
 use Rattle.mq_differences.specs.Differences.{same_reason, same_start, same_way}
 use Rattle.mq_differences.specs.Questions.{IsGain, IsPoint, IsQuestion}
 use Rattle.mq_differences.specs.Questions.{IsShownBy, class_of, gain_cover}
@@ -129,7 +136,7 @@ pub sound_of : (q : Question) (gain : Gain) (w : Witness) (d : Difference)
     → IsQuestion q → IsGain q gain
     → ShowsBy (open_in q) (asked_in q) q.clients (gain_must gain) (gain_cover gain) w
     → StandsBy (open_in q) (asked_in q) q.clients (gain_must gain) (gain_cover gain) w
-    → Knows (asked_in q) w
+    → KnowsBy (asked_in q) w
     → IsOf q gain w d → IsMarked (asked_in q) d → AreUnnamed (asked_in q) d
     → IsSound q.lists.now.old.now q.lists.now.new.now (asked_in q) d
 sound_of q gain w d k g s t n o m u =
@@ -145,21 +152,9 @@ sound_of q gain w d k g s t n o m u =
           (record { is_asked = s.is_asked; valid = s.valid; taken = s.taken }) s.decided);
       marked = m;
       unnamed = u;
-      known = at_difference (λ client user topic. AreKnown (asked_in q) client user topic)
-          user o.client o.topic n;
-      stands = λ text other stands valid taken.
-          at_difference (λ client user topic. Shows rules old new d (swap text other client)
-          (swap_user text other user) (swap_name text other topic)) user o.client o.topic
-          (let is_shown = t text other stands
-          (subst (λ n. is_name (swap_name text other n) ≡ true) o.topic valid)
-          ((λ i. refuses rules (sym o.direction i) (swap_name text other (sym o.topic i))) ∙ taken) in
-          shows_at q gain w d (swap text other (string_bytes w.client))
-          (swap_user text other (user_view w.user)) (swap_name text other w.name) k g s o
-          (record {
-            is_asked = is_shown.is_asked;
-            valid = is_shown.valid;
-            taken = is_shown.taken;
-          }) is_shown.decided);
+      known = at_difference (λ client user topic. AreKnownBy (asked_in q).rules (asked_in q) client
+          user topic) user o.client o.topic n;
+      stands = stands_of (asked_in q).rules refl user t;
     }
   where
     at_difference : (P : List ℕ → Option (List ℕ) → List ℕ → Type 0)
@@ -170,3 +165,41 @@ sound_of q gain w d k g s t n o m u =
         subst (λ x. P x (user_of d.class) d.topic) (sym c)
         (subst (λ x. P (string_bytes w.client) x d.topic) (sym u)
         (subst (λ x. P (string_bytes w.client) (user_view w.user) x) (sym n) h))
+
+    -- with other texts in the place of those that stand for them
+    shown_with : (r : Rules) → (asked_in q).rules ≡ r → (client topic : List ℕ)
+        (user : Option (List ℕ))
+        → IsShown (open_in q) (asked_in q) q.clients (gain_must gain) (gain_cover gain) client user
+        topic
+        → Shows r q.lists.now.old.now q.lists.now.new.now d client user topic
+    shown_with r e client topic user is_shown =
+        subst (λ r. Shows r q.lists.now.old.now q.lists.now.new.now d client user topic) e
+        (shows_at q gain w d client user topic k g s o
+        (record {
+          is_asked = is_shown.is_asked;
+          valid = is_shown.valid;
+          taken = is_shown.taken;
+        }) is_shown.decided)
+
+    stands_of : (r : Rules) → (asked_in q).rules ≡ r → user_of d.class ≡ user_view w.user
+        → StandBy r (open_in q) (asked_in q) q.clients (gain_must gain) (gain_cover gain) w
+        → ShowsOthers r q.lists.now.old.now q.lists.now.new.now (asked_in q) d
+    stands_of Own e user t = λ text other stands valid taken.
+        at_difference (λ client user topic. Shows Own q.lists.now.old.now q.lists.now.new.now d
+        (swap text other client) (swap_user text other user) (swap_name text other topic)) user
+        o.client o.topic
+        (shown_with Own e (swap text other (string_bytes w.client)) (swap_name text other w.name)
+        (swap_user text other (user_view w.user)) (t text other stands
+        (subst (λ n. is_name (swap_name text other n) ≡ true) o.topic valid)
+        ((λ i. refuses (e i) (sym o.direction i) (swap_name text other (sym o.topic i))) ∙ taken)))
+    stands_of Mosquitto e user t = λ level other stands id user_id valid taken.
+        at_difference (λ client user topic. Shows Mosquitto q.lists.now.old.now
+        q.lists.now.new.now d (swap_levels level other client)
+        (leveled.swap_user level other user) (swap_levels level other topic)) user o.client o.topic
+        (shown_with Mosquitto e (swap_levels level other (string_bytes w.client))
+        (swap_levels level other w.name) (leveled.swap_user level other (user_view w.user))
+        (t level other stands
+        (subst (λ c. can_be_id (swap_levels level other c) ≡ true) o.client id)
+        (subst (λ u. mark_passes can_be_id (leveled.swap_user level other u) ≡ true) user user_id)
+        (subst (λ n. is_name (swap_levels level other n) ≡ true) o.topic valid)
+        ((λ i. refuses (e i) (sym o.direction i) (swap_levels level other (sym o.topic i))) ∙ taken)))

@@ -8,8 +8,8 @@ use Rattle.mq_acl.specs.Rows.{Who}
 use Rattle.mq_acl.specs.Rows as rows
 use Rattle.mq_acl.specs.RowsByOwner.{is_everyones}
 use Rattle.mq_acl.specs.Views.{row_view}
-use Rattle.mq_witness.specs.declared.clients.Clients.{Clients}
-use Rattle.mq_witness.specs.declared.clients.Clients.TheVariants.{Anonymous, Named, Others}
+use Rattle.mq_shapes.specs.declared.clients.Clients.{Clients}
+use Rattle.mq_shapes.specs.declared.clients.Clients.TheVariants.{Anonymous, Named, Others}
 use Rattle.mq_differences.specs.declared.by_owner.ByOwner.{ByOwner}
 use Rattle.mq_differences.specs.declared.marks.Marked.{Marked}
 

@@ -6,9 +6,9 @@ use Rattle.mq_acl.specs.Views.{row_views}
 use Rattle.mq_acl.specs.declared.access.Direction.{Direction}
 use Rattle.mq_witness.specs.Asked.{IsListed}
 use Rattle.mq_witness.specs.Clients.{can_be_id}
-use Rattle.mq_witness.specs.declared.clients.Clients.{Clients}
+use Rattle.mq_shapes.specs.declared.clients.Clients.{Clients}
 use Rattle.mq_differences.specs.Classes.{can_be_user}
-use Rattle.mq_differences.specs.Differences.{is_change, is_compared, is_shown_of}
+use Rattle.mq_differences.specs.Differences.{is_change, is_shown_of}
 use Rattle.mq_differences.specs.Questions.{AreRowsFor, IsPoint}
 use Rattle.mq_differences.specs.declared.changes.ClassRows.{ClassRows}
 use Rattle.mq_differences.specs.declared.difference.Difference.{Difference}
@@ -34,7 +34,6 @@ ShowsChangesIn lists clients way direction shown = (client topic : List ℕ) (us
 abbrev pub ShowsChangesOf : Lists → Option (List ℕ) → List Difference → Type 0
 ShowsChangesOf lists user shown = (way : Way) (direction : Direction) (client topic : List ℕ)
     → can_be_id client ≡ true → can_be_user user ≡ true
-    → is_compared lists.asked.rules lists.old.now lists.new.now client user ≡ true
     → is_name topic ≡ true
     → is_change lists.asked.rules way (row_views lists.old.now) (row_views lists.new.now) client
     user topic direction ≡ true

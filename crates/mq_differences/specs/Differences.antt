@@ -15,10 +15,14 @@ use Rattle.mq_acl.specs.Views.{row_views}
 use Rattle.mq_acl.specs.declared.row.Row.{Row}
 use Rattle.mq_acl.specs.declared.access.Direction.{Direction}
 use Rattle.mq_acl.specs.declared.access.Direction.TheVariants.{Reading, Writing}
-use Rattle.mq_witness.specs.Asked.{AreKnown, AskedRows, StandsFor, is_placeholder}
+use Rattle.mq_acl.specs.declared.rules.Rules.TheVariants.{Own, Mosquitto}
+use Rattle.mq_cover.specs.Remainders.{mark_passes}
+use Rattle.mq_shapes.specs.Swaps.{swap_levels}
+use Rattle.mq_shapes.specs.Swaps as leveled
+use Rattle.mq_witness.specs.Asked.{AskedRows, StandsFor}
+use Rattle.mq_witness.specs.Leveled.{StandsForLevel}
 use Rattle.mq_witness.specs.Clients.{can_be_id}
-use Rattle.mq_witness.specs.Rows.{rows_name}
-use Rattle.mq_witness.specs.Ruled.{are_asked_of}
+use Rattle.mq_witness.specs.Ruled.{AreKnownBy, is_stand_in, names_by}
 use Rattle.mq_witness.specs.Swaps.{swap, swap_user, swap_name}
 use Rattle.mq_differences.specs.Classes.{user_of, is_in, can_be_user}
 use Rattle.mq_differences.specs.Reasons.{reason_of}
@@ -95,16 +99,11 @@ is_shown_of rules old new way direction client user topic d =
     && (same_reason (reason_of rules old client user topic direction) d.old_reason
     && same_reason (reason_of rules new client user topic direction) d.new_reason)
 
--- by these rules two lists are compared for clients with this client id, and with this user name or none
-abbrev pub is_compared : Rules → (old new : List Row) → List ℕ → Option (List ℕ) → Bool
-is_compared rules old new client user =
-    are_asked_of rules (row_views old ++ row_views new) client user
-
--- whatever changes for a client that a broker can have, and that they are compared for, is shown
+-- whatever changes for a client that a broker can have is shown
 abbrev pub ShowsAll : Rules → (old new : List Row) → List Difference → Type 0
 ShowsAll rules old new all = (way : Way) (direction : Direction) (client topic : List ℕ)
     (user : Option (List ℕ)) → can_be_id client ≡ true → can_be_user user ≡ true
-    → is_compared rules old new client user ≡ true → is_name topic ≡ true
+    → is_name topic ≡ true
     → is_change rules way (row_views old) (row_views new) client user topic direction ≡ true
     → list_any (is_shown_of rules old new way direction client user topic) all ≡ true
 
@@ -129,35 +128,49 @@ IsReal rules old new d = Shows rules old new d (string_bytes d.client) (user_of 
 abbrev pub AreApart : List Difference → Type 0
 AreApart all = AllPairs (λ d e. is_like d e ≡ false) all
 
-abbrev pub is_user : List ℕ → Option (List ℕ) → Bool
-is_user text None = false
-is_user text (Some user) = bytes_eq text user
+-- the text is this id; by mosquitto's rules it is a level of it
+abbrev pub is_part : Rules → (text id : List ℕ) → Bool
+is_part Own text id = bytes_eq text id
+is_part Mosquitto text id = list_any (bytes_eq text) (levels id)
 
--- the text is the client id, the user name or a level of the topic
-abbrev pub is_of : List ℕ → List ℕ → Option (List ℕ) → List ℕ → Bool
-is_of text client user topic =
-    bytes_eq text client || is_user text user || list_any (bytes_eq text) (levels topic)
+abbrev pub is_user_part : Rules → (text : List ℕ) → Option (List ℕ) → Bool
+is_user_part rules text None = false
+is_user_part rules text (Some user) = is_part rules text user
+
+-- the text is the client id, the user name or a level of the topic; by mosquitto's rules a level of one of them
+abbrev pub is_of : Rules → (text client : List ℕ) → Option (List ℕ) → (topic : List ℕ) → Bool
+is_of rules text client user topic =
+    is_part rules text client || is_user_part rules text user
+    || list_any (bytes_eq text) (levels topic)
 
 abbrev pub has_text : List (String Global) → List ℕ → Bool
 has_text texts text = list_any (λ t. bytes_eq text (string_bytes t)) texts
 
 -- the placeholders that it lists are its own
 abbrev pub IsMarked : AskedRows → Difference → Type 0
-IsMarked asked d = (text : List ℕ)
-    → has_text d.placeholders.items text
-    ≡ (is_of text (string_bytes d.client) (user_of d.class) d.topic && is_placeholder text asked)
+IsMarked asked d = (text : List ℕ) → has_text d.placeholders.items text
+    ≡ (is_of asked.rules text (string_bytes d.client) (user_of d.class) d.topic
+    && is_stand_in asked text)
 
--- it is so too with any text in the place of a placeholder that stands for it, where the broker doesn't refuse that topic
+-- it is so too with any text in the place of a placeholder that stands for it, where no text is too long then, and the broker
+-- doesn't refuse that topic; by mosquitto's rules level by level
 abbrev pub ShowsOthers : Rules → (old new : List Row) → AskedRows → Difference → Type 0
-ShowsOthers rules old new asked d = (text other : List ℕ) → StandsFor asked text other
+ShowsOthers Own old new asked d = (text other : List ℕ) → StandsFor asked text other
     → is_name (swap_name text other d.topic) ≡ true
-    → refuses rules d.direction (swap_name text other d.topic) ≡ false
-    → Shows rules old new d (swap text other (string_bytes d.client))
+    → refuses Own d.direction (swap_name text other d.topic) ≡ false
+    → Shows Own old new d (swap text other (string_bytes d.client))
     (swap_user text other (user_of d.class)) (swap_name text other d.topic)
+ShowsOthers Mosquitto old new asked d = (level other : List ℕ) → StandsForLevel asked level other
+    → can_be_id (swap_levels level other (string_bytes d.client)) ≡ true
+    → mark_passes can_be_id (leveled.swap_user level other (user_of d.class)) ≡ true
+    → is_name (swap_levels level other d.topic) ≡ true
+    → refuses Mosquitto d.direction (swap_levels level other d.topic) ≡ false
+    → Shows Mosquitto old new d (swap_levels level other (string_bytes d.client))
+    (leveled.swap_user level other (user_of d.class)) (swap_levels level other d.topic)
 
 -- no row names the text
 abbrev pub IsUnnamed : AskedRows → String Global → Type 0
-IsUnnamed asked text = rows_name (string_bytes text) asked.rows ≡ false
+IsUnnamed asked text = names_by asked.rules (string_bytes text) asked.rows ≡ false
 
 -- no row names any of its placeholders
 abbrev pub AreUnnamed : AskedRows → Difference → Type 0
@@ -165,12 +178,13 @@ AreUnnamed asked d = All (IsUnnamed asked) d.placeholders.items
 
 -- a row names each of its texts, or it is a placeholder
 abbrev pub IsKnown : AskedRows → Difference → Type 0
-IsKnown asked d = AreKnown asked (string_bytes d.client) (user_of d.class) d.topic
+IsKnown asked d = AreKnownBy asked.rules asked (string_bytes d.client) (user_of d.class) d.topic
 
 -- some texts are placeholders: each difference lists those that it has, which are the ones that no
 -- row of either list names, and they stand for others
 pub record AreMarked (rules : Rules) (old new : List Row) (all : List Difference) : Type 0 where
   pub asked : AskedRows
+  pub rules_are : asked.rules ≡ rules
   pub rows : asked.rows ≡ row_views old ++ row_views new
   pub marked : All (IsMarked asked) all
   pub unnamed : All (AreUnnamed asked) all

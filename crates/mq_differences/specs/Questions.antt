@@ -14,8 +14,8 @@ use Rattle.mq_acl.specs.declared.rules.Rules.{Rules}
 use Rattle.mq_witness.specs.Asked.{AskedRows, IsListed}
 use Rattle.mq_witness.specs.Names.{refused_of}
 use Rattle.mq_witness.specs.Ruled.{IsAskedOf, decides_by}
-use Rattle.mq_witness.specs.declared.clients.Clients.{Clients}
-use Rattle.mq_witness.specs.declared.clients.Clients.TheVariants as clients
+use Rattle.mq_shapes.specs.declared.clients.Clients.{Clients}
+use Rattle.mq_shapes.specs.declared.clients.Clients.TheVariants as clients
 use Rattle.mq_witness.specs.declared.topics.Topics.{Topics}
 use Rattle.mq_witness.specs.declared.topics.Topics.TheVariants.{Open}
 use Rattle.mq_differences.specs.ByOwner.{IsGrouped, is_for}

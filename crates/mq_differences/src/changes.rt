@@ -9,7 +9,6 @@ ghost use Rattle.mq_witness.specs.Clients.{can_be_id};
 ghost use Rattle.mq_witness.specs.Rows.{is_user_of};
 ghost use Rattle.mq_differences.specs.Classes.{can_be_user};
 ghost use Rattle.mq_differences.specs.Differences.{ShowsAll, IsReal, AreApart, AreMarked};
-ghost use Rattle.mq_differences.specs.Differences.{is_compared};
 ghost use Rattle.mq_differences.specs.Faults.{IsComparisonFault};
 ghost use Rattle.mq_differences.specs.Questions.{AreLists, IsStop};
 ghost use Rattle.mq_differences.specs.Reports.{Grows};
@@ -158,7 +157,7 @@ pub fn compare<'a>(
     ensures same { IfOk result (λ all. all.items ≡ []
         → (client topic : List ℕ) (user : Option (List ℕ)) (direction : Direction)
         → can_be_id client ≡ true → can_be_user user ≡ true
-        → is_compared rules old.entry.now new.entry.now client user ≡ true → is_name topic ≡ true
+        → is_name topic ≡ true
         → allow_by rules (row_views old.entry.now) client user topic direction
         ≡ allow_by rules (row_views new.entry.now) client user topic direction) }
     ensures fault { IfErr result (IsComparisonFault rules old.entry.now new.entry.now steps) }

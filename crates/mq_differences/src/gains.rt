@@ -4,9 +4,8 @@ ghost use Rattle.std.specs.Prelude.{◌≡◌, ◌<◌, ◌&&◌, ◌||◌, ℕ,
 ghost use Rattle.std.specs.Prelude.{nat_lt};
 ghost use Rattle.mq_acl.specs.Access.{begins_with_dollar};
 ghost use Rattle.mq_acl.specs.Views.{row_view};
-ghost use Rattle.mq_witness.specs.Asked.{Knows};
 ghost use Rattle.mq_witness.specs.Rows.{lent_rows};
-ghost use Rattle.mq_witness.specs.Ruled.{ShowsBy, StandsBy};
+ghost use Rattle.mq_witness.specs.Ruled.{KnowsBy, ShowsBy, StandsBy};
 ghost use Rattle.mq_differences.specs.Questions.{AreShown, AreShownBy, AreShownOf, IsDeniedAt};
 ghost use Rattle.mq_differences.specs.Questions.{IsGain};
 ghost use Rattle.mq_differences.specs.Questions.{IsPlaced, IsQuestion, IsStop, IsShownBy};
@@ -116,7 +115,7 @@ fn difference_of(
     requires kind { begins_with_dollar witness.name ≡ dollar }
     requires stands { StandsBy (open_in question.now) (asked_in question.now) question.now.clients
         (gain_must gain.now) (gain_cover gain.now) witness }
-    requires known { Knows (asked_in question.now) witness }
+    requires known { KnowsBy (asked_in question.now) witness }
     ensures sound { IfOk result (IsSound question.entry.now.lists.now.old.now
         question.entry.now.lists.now.new.now (asked_in question.entry.now)) }
     ensures shown { IfOk result (λ d. IsShownBy dollar question.entry.now gain.entry.now d) }

@@ -18,7 +18,6 @@ use Rattle.mq_lint.specs.Needless.{called_of, is_needless, repeated, without, wi
 use Rattle.mq_lint.specs.Kinds.{AreCalled, AreFirst, AreKinds}
 use Rattle.mq_lint.specs.Kinds.{CalledFrom, IsBeside, IsBesideUnless, IsFirst, IsFirstUnless}
 use Rattle.mq_lint.specs.Kinds.{called_with}
-use Rattle.mq_lint.specs.declared.ids.Ids.{Ids}
 use Rattle.mq_lint.specs.declared.remark.Remark.{Remark}
 use Rattle.mq_lint.specs.declared.remark.RemarkKind.{RemarkKind}
 use Rattle.mq_lint.specs.declared.remark.RemarkKind.TheVariants.{Fault, NoMark, IndentedComment}
@@ -29,9 +28,9 @@ use Rattle.mq_lint.proofs.SameLemmas.{without_more, without_none}
 
 -- ---- what the list allows without one row more
 pub differs_beside : (rules : Rules) (all called : List AclRow) (row : AclRow)
-    → AllowSame rules all all (without_all called all)
-    → Differ rules all (without_all called all) (without row (without_all called all))
-    → Differ rules all all (without_all (called ++ row ∷ []) all)
+    → AllowSame rules all (without_all called all)
+    → Differ rules (without_all called all) (without row (without_all called all))
+    → Differ rules all (without_all (called ++ row ∷ []) all)
 differs_beside rules all called row same d = record {
   client = d.client;
   user = d.user;
@@ -45,9 +44,9 @@ differs_beside rules all called row same d = record {
 }
 
 pub same_beside : (rules : Rules) (all called : List AclRow) (row : AclRow)
-    → AllowSame rules all all (without_all called all)
-    → AllowSame rules all (without_all called all) (without row (without_all called all))
-    → AllowSame rules all all (without_all (called ++ row ∷ []) all)
+    → AllowSame rules all (without_all called all)
+    → AllowSame rules (without_all called all) (without row (without_all called all))
+    → AllowSame rules all (without_all (called ++ row ∷ []) all)
 same_beside rules all called row same more client name user direction a v =
     same client name user direction a v ∙ more client name user direction a v
     ∙ ap (λ rows. allow_by rules rows client user name direction) (without_more called row all)
@@ -65,9 +64,9 @@ module _ (rules : Rules) (rows : List Row) (called : List AclRow) (row : AclRow)
   pub first_beside : (o : Option ℕ) (kind : Option RemarkKind) → IsFirstUnless rules rows row o kind
       → is_needless kind ≡ false → Beside o kind
   first_beside (Some line) kind h e = h
-  first_beside None None h e = λ known. inl (h known)
-  first_beside None (Some (DeniesNothing ids)) h e = h
-  first_beside None (Some (Needless ids by)) h e = absurd (let q : true ≡ false = e in cc)
+  first_beside None None h e = inl h
+  first_beside None (Some DeniesNothing) h e = h
+  first_beside None (Some (Needless by)) h e = absurd (let q : true ≡ false = e in cc)
   first_beside None (Some (Fault kind)) h e = h
   first_beside None (Some NoMark) h e = h
   first_beside None (Some IndentedComment) h e = h
@@ -78,20 +77,20 @@ module _ (rules : Rules) (rows : List Row) (called : List AclRow) (row : AclRow)
   -- one that is needed beside those
   pub kept_beside : (o : Option ℕ) (kind : Option RemarkKind) → IsFirstUnless rules rows row o kind
       → is_needless kind ≡ true
-      → Differ rules (row_views rows) (row_views rows) (without_all (called ++ row ∷ []) (row_views rows))
+      → Differ rules (row_views rows) (without_all (called ++ row ∷ []) (row_views rows))
       → Beside o None
   kept_beside (Some line) kind h e d = absurd (not_repeated line kind h e)
-  kept_beside None kind h e d = λ known. inr d
+  kept_beside None kind h e d = inr d
 
   -- one that isn't
   pub called_beside : (o : Option ℕ) (kind : Option RemarkKind) → IsFirstUnless rules rows row o kind
       → is_needless kind ≡ true
-      → AllowSame rules (row_views rows) (row_views rows) (without_all (called ++ row ∷ []) (row_views rows))
+      → AllowSame rules (row_views rows) (without_all (called ++ row ∷ []) (row_views rows))
       → Beside o kind
   called_beside (Some line) kind h e s = absurd (not_repeated line kind h e)
   called_beside None None h e s = absurd (let q : false ≡ true = e in cc)
-  called_beside None (Some (Needless ids by)) h e s = record { spare = h; beside = s }
-  called_beside None (Some (DeniesNothing ids)) h e s = absurd (let q : false ≡ true = e in cc)
+  called_beside None (Some (Needless by)) h e s = record { spare = h; beside = s }
+  called_beside None (Some DeniesNothing) h e s = absurd (let q : false ≡ true = e in cc)
   called_beside None (Some (Fault kind)) h e s = absurd h
   called_beside None (Some NoMark) h e s = absurd h
   called_beside None (Some IndentedComment) h e s = absurd h
@@ -102,11 +101,11 @@ module _ (rules : Rules) (rows : List Row) (called : List AclRow) (row : AclRow)
   -- of one that is called needless the list without it too allows the same
   pub is_called : (o : Option ℕ) (kind : Option RemarkKind) → Beside o kind
       → is_needless kind ≡ true
-      → AllowSame rules (row_views rows) (row_views rows) (without_all (called ++ row ∷ []) (row_views rows))
+      → AllowSame rules (row_views rows) (without_all (called ++ row ∷ []) (row_views rows))
   is_called (Some line) kind h e = absurd (not_repeated line kind h e)
   is_called None None h e = absurd (let q : false ≡ true = e in cc)
-  is_called None (Some (Needless ids by)) h e = h.beside
-  is_called None (Some (DeniesNothing ids)) h e = absurd (let q : false ≡ true = e in cc)
+  is_called None (Some (Needless by)) h e = h.beside
+  is_called None (Some DeniesNothing) h e = absurd (let q : false ≡ true = e in cc)
   is_called None (Some (Fault kind)) h e = absurd h
   is_called None (Some NoMark) h e = absurd h
   is_called None (Some IndentedComment) h e = absurd h
@@ -115,14 +114,12 @@ module _ (rules : Rules) (rows : List Row) (called : List AclRow) (row : AclRow)
   is_called None (Some (Repeats line)) h e = absurd h
 
   -- with what makes it needless
-  pub made_kind : (behind : List AclRow) (o : Option ℕ) (ids : Ids) (old by : Option ℕ)
-      → IsBy rules rows called row by → IsBesideUnless rules rows behind row o (Some (Needless ids old))
-      → IsKindUnless rules rows called behind row o (Some (Needless ids by))
-  made_kind behind (Some line) ids old by m h =
+  pub made_kind : (behind : List AclRow) (o old by : Option ℕ)
+      → IsBy rules rows called row by → IsBesideUnless rules rows behind row o (Some (Needless old))
+      → IsKindUnless rules rows called behind row o (Some (Needless by))
+  made_kind behind (Some line) old by m h =
       absurd (let q : true ≡ false = ap is_needless h in cc)
-  made_kind behind None ids old by m h = record {
-    whom = h.spare.whom;
-    known = h.spare.known;
+  made_kind behind None old by m h = record {
     denies_some = h.spare.denies_some;
     alone = h.spare.alone;
     beside = h.beside;
@@ -135,8 +132,8 @@ module _ (rules : Rules) (rows : List Row) (called : List AclRow) (row : AclRow)
       → IsKindUnless rules rows called behind row o kind
   same_kind behind (Some line) kind e h = h
   same_kind behind None None e h = h
-  same_kind behind None (Some (DeniesNothing ids)) e h = h
-  same_kind behind None (Some (Needless ids by)) e h = absurd (let q : true ≡ false = e in cc)
+  same_kind behind None (Some DeniesNothing) e h = h
+  same_kind behind None (Some (Needless by)) e h = absurd (let q : true ≡ false = e in cc)
   same_kind behind None (Some (Fault kind)) e h = h
   same_kind behind None (Some NoMark) e h = h
   same_kind behind None (Some IndentedComment) e h = h
@@ -147,10 +144,10 @@ module _ (rules : Rules) (rows : List Row) (called : List AclRow) (row : AclRow)
 -- ---- from the last to the first
 with_same : (rules : Rules) (rows : List Row) (called : List AclRow) (row : AclRow)
     (kind : Option RemarkKind) (b : Bool) → is_needless kind ≡ b
-    → (is_needless kind ≡ true → AllowSame rules (row_views rows) (row_views rows)
+    → (is_needless kind ≡ true → AllowSame rules (row_views rows)
     (without_all (called ++ row ∷ []) (row_views rows)))
-    → AllowSame rules (row_views rows) (row_views rows) (without_all called (row_views rows))
-    → AllowSame rules (row_views rows) (row_views rows)
+    → AllowSame rules (row_views rows) (without_all called (row_views rows))
+    → AllowSame rules (row_views rows)
     (without_all (if b then called ++ row ∷ [] else called) (row_views rows))
 with_same rules rows called row kind true e f s = f e
 with_same rules rows called row kind false e f s = s
@@ -268,7 +265,7 @@ all_made rules rows kinds all called are made flags = record {
       (same_behind place rows kinds all (sym flags))
       (made.each place row kind low low (called_behind place rows kinds)
       (are.behind place row None (omega arith) low)));
-  together = subst (λ l. AllowSame rules (row_views rows) (row_views rows)
+  together = subst (λ l. AllowSame rules (row_views rows)
       (without_all l (row_views rows))) same are.same;
 }
   where

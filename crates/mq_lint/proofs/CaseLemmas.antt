@@ -22,7 +22,7 @@ use Rattle.mq_witness.specs.Asked.{AskedRows, user_view}
 use Rattle.mq_witness.specs.declared.witness.Witness.{Witness}
 use Rattle.mq_witness.specs.Rows.{lent_rows}
 use Rattle.mq_witness.specs.Ruled.{FindsNoneBy, IsAskedOf, ShowsBy, decides_by}
-use Rattle.mq_witness.specs.declared.clients.Clients.{Clients}
+use Rattle.mq_shapes.specs.declared.clients.Clients.{Clients}
 use Rattle.mq_witness.specs.declared.topics.Topics.{Topics}
 use Rattle.mq_witness.specs.declared.topics.Topics.TheVariants.{Open}
 use Rattle.mq_differences.specs.ByOwner.{is_for, is_own}
@@ -32,7 +32,7 @@ use Rattle.mq_differences.specs.Questions.{IsPoint}
 use Rattle.mq_differences.specs.Ranks.{is_judge, rank, rank_of}
 use Rattle.mq_differences.proofs.DeciderLemmas.{some_at}
 use Rattle.mq_differences.proofs.PointLemmas.{client_user}
-use Rattle.mq_lint.specs.Needless.{is_asked, same_row, without}
+use Rattle.mq_lint.specs.Needless.{is_client, same_row, without}
 use Rattle.mq_lint.specs.Cases.{CanAsk, Finds, FindsNone, GrantsAlone, GrantsNone, IsNeeded}
 use Rattle.mq_lint.specs.Cases.{IsNeedlessIn, IsNeedlessTo, NoneAt, Precedes, before, has_row}
 use Rattle.mq_lint.specs.Cases.{is_at, is_before, others_of}
@@ -129,9 +129,9 @@ other_inside c row rows all within others items n other are same low is =
 
 -- ---- who is asked about
 pub point_asked : (asked : AskedRows) (c : Clients) (client : List ℕ) (user : Option (List ℕ))
-    → IsAskedOf asked c client user → is_asked asked.rules asked.rows client user ≡ true
+    → IsAskedOf asked c client user → is_client client user ≡ true
 point_asked asked c client user p =
-    rw (p.client_fits, client_user asked c user p.user_fits, p.are_asked) refl
+    rw (p.client_fits, client_user asked c user p.user_fits) refl
 
 -- topics that begin with `$`, and the others
 pub none_of_both : (topics : Topics) (asked : AskedRows) (c : Clients) (must cover : List AclRow)

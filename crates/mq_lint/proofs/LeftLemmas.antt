@@ -7,7 +7,7 @@ use Rattle.mq_acl.specs.Rows.{AclRow}
 use Rattle.mq_acl.specs.RowsByOwner.{is_everyones}
 use Rattle.mq_witness.specs.Asked.{AskedRows}
 use Rattle.mq_witness.specs.Rows.{lent_rows}
-use Rattle.mq_witness.specs.declared.clients.Clients.{Clients}
+use Rattle.mq_shapes.specs.declared.clients.Clients.{Clients}
 use Rattle.mq_differences.specs.ByOwner.{is_own}
 use Rattle.mq_lint.specs.Needless.{is_among, without, without_all}
 use Rattle.mq_lint.specs.Cases.{others_of}

@@ -2,7 +2,6 @@ pub mod BesideLemmas
 pub mod CalledLemmas
 pub mod CaseLemmas
 pub mod ClassLemmas
-pub mod IdsLemmas
 pub mod KindLemmas
 pub mod LeftLemmas
 pub mod LintLemmas

@@ -13,14 +13,14 @@ use Rattle.mq_acl.specs.Views.{row_view, row_views}
 use Rattle.mq_acl.specs.declared.row.Row.{Row}
 use Rattle.mq_witness.specs.Asked.{AskedRows, is_client_of}
 use Rattle.mq_witness.specs.Clients.{can_be_id}
-use Rattle.mq_witness.specs.Ruled.{are_asked_of, decides_by}
-use Rattle.mq_witness.specs.declared.clients.Clients.{Clients}
+use Rattle.mq_witness.specs.Ruled.{decides_by}
+use Rattle.mq_shapes.specs.declared.clients.Clients.{Clients}
 use Rattle.mq_witness.specs.declared.topics.Topics.TheVariants as topics
 use Rattle.mq_differences.specs.ByOwner.{is_for}
 use Rattle.mq_differences.specs.Classes.{can_be_user}
 use Rattle.mq_differences.proofs.FirstLemmas.{All-unmap, IsFirst, first_place}
 use Rattle.mq_differences.proofs.PointLemmas.{concerned_applies}
-use Rattle.mq_lint.specs.Needless.{AllowSame, DeniesNone, Meet, is_asked, same_row, without}
+use Rattle.mq_lint.specs.Needless.{AllowSame, DeniesNone, Meet, same_row, without}
 use Rattle.mq_lint.specs.Cases.{AreClasses, Finds, FindsNone, IsNeedlessTo, MeetsGrant, NoneMeets}
 use Rattle.mq_lint.specs.Cases.{has_row, others_of, permits}
 use Rattle.mq_lint.proofs.CaseLemmas.{both, point_asked}
@@ -40,21 +40,11 @@ class_of asked row classes client user name are fits here =
     first_place (λ c. is_client_of asked c user) classes
     (are.covers user fits (concerned_applies asked.rules client name user row here))
 
--- what is known of a client that is asked about
-pub asked_parts : (rules : Rules) (all : List AclRow) (client : List ℕ) (user : Option (List ℕ))
-    → is_asked rules all client user ≡ true → (can_be_id client ≡ true)
-    × (can_be_user user ≡ true) × (are_asked_of rules all client user ≡ true)
-asked_parts rules all client user e =
-    let one = and_parts (can_be_id client) (can_be_user user && are_asked_of rules all client user)
-    e in
-    let two = and_parts (can_be_user user) (are_asked_of rules all client user) one.1 in
-    (one.0, two.0, two.1)
-
 -- ---- a row that no client needs
 pub needless_all : (asked : AskedRows) (rows : List AclRow) (row : AclRow) (classes : List Clients)
     → has_row row rows ≡ true → AreClasses asked row.who classes
     → All (λ c. IsNeedlessTo asked rows c row) classes
-    → AllowSame asked.rules asked.rows rows (without row rows)
+    → AllowSame asked.rules rows (without row rows)
 needless_all asked rows row classes h are each client name user direction a v =
     at (concerns_by asked.rules client user name row) refl
   where
@@ -62,7 +52,7 @@ needless_all asked rows row classes h are each client name user direction a v =
         → allow_by asked.rules rows client user name direction
         ≡ allow_by asked.rules (without row rows) client user name direction
     at true e =
-        let fits = asked_parts asked.rules asked.rows client user a in
+        let fits = and_parts (can_be_id client) (can_be_user user) a in
         let class = class_of asked row classes client user name are fits.1 e in
         unless_refused asked.rules client user name direction rows (without row rows)
         (λ taken. each class.place class.item class.in_range direction client name user
@@ -70,14 +60,13 @@ needless_all asked rows row classes h are each client name user direction a v =
           is_asked = record {
             client_fits = fits.0;
             user_fits = class.here class.item;
-            are_asked = fits.2;
           };
           valid = v;
           taken = taken;
         }))
     at false e = same_allowed asked.rules client user name direction rows (without row rows)
         (unconcerned asked.rules client user name direction row rows
-        (asked_parts asked.rules asked.rows client user a).1 h e)
+        (and_parts (can_be_id client) (can_be_user user) a).1 h e)
 
 -- ---- a row that denies nothing
 denies_apart : (a b : AclRow) → is_deny a.access ≡ false → is_deny b.access ≡ true
@@ -129,14 +118,13 @@ denies_none rows asked row classes is so are each = record {
   denies = so;
   meets_none = λ place d low permits m. never (row_view (get_or rows place d))
       (subst (λ rs. Contains rs (row_view (get_or rows place d))) (sym is)
-      (viewed rows place d low)) permits
-      (subst (λ rs. Meet asked.rules rs row (row_view (get_or rows place d))) (sym is) m);
+      (viewed rows place d low)) permits m;
 }
   where
     never : (other : AclRow) → Contains asked.rows other → is_deny other.access ≡ false
-        → Meet asked.rules asked.rows row other → ⊥
+        → Meet asked.rules row other → ⊥
     never other inside grants_it m =
-        let fits = asked_parts asked.rules asked.rows m.client m.user m.fits in
+        let fits = and_parts (can_be_id m.client) (can_be_user m.user) m.fits in
         let class = class_of asked row classes m.client m.user m.name are fits.1 m.first in
         let c = get_or classes class.place class.item in
         let of_class = class.here class.item in
@@ -154,7 +142,6 @@ denies_none rows asked row classes is so are each = record {
           is_asked = record {
             client_fits = fits.0;
             user_fits = of_class;
-            are_asked = fits.2;
           };
           valid = m.valid;
           taken = refl;
@@ -199,5 +186,4 @@ denies_some rows asked row d is m none =
     let same : row_view (get_or rows inside.0 d) ≡ m.other = sym place.1 ∙ inside.2 in
     none.meets_none inside.0 d place.0
     (ap (λ r. is_deny r.access) same ∙ m.grants_it)
-    (subst (Meet asked.rules (row_views rows) row) (sym same)
-    (subst (λ rs. Meet asked.rules rs row m.other) is m.meets))
+    (subst (Meet asked.rules row) (sym same) m.meets)

@@ -10,7 +10,7 @@ use Rattle.mq_acl.specs.Views.{row_view}
 use Rattle.mq_acl.specs.declared.row.Row.{Row}
 use Rattle.mq_witness.specs.Asked.{AskedRows}
 use Rattle.mq_witness.specs.Rows.{lent_rows}
-use Rattle.mq_witness.specs.declared.clients.Clients.{Clients}
+use Rattle.mq_shapes.specs.declared.clients.Clients.{Clients}
 use Rattle.mq_witness.specs.declared.topics.Topics.{Topics}
 use Rattle.mq_lint.specs.Cases.{FindsNone, NoneMeets, others_of}
 

@@ -14,13 +14,14 @@ use Rattle.mq_acl.specs.Access.{grants, is_deny}
 use Rattle.mq_acl.specs.RowsByOwner.{is_everyones}
 use Rattle.mq_acl.specs.Lines.{Access, Read, Write, ReadWrite, Deny}
 use Rattle.mq_acl.specs.Rows.{AclRow}
-use Rattle.mq_acl.specs.Views.{row_view, row_views}
+use Rattle.mq_acl.specs.Views.{row_view}
 use Rattle.mq_acl.specs.declared.row.Row.{Row}
 use Rattle.mq_acl.specs.declared.access.Direction.{Direction}
 use Rattle.mq_acl.specs.declared.access.Direction.TheVariants.{Reading, Writing}
 use Rattle.mq_witness.specs.Asked.{AskedRows}
+use Rattle.mq_witness.specs.Clients.{can_be_id}
 use Rattle.mq_witness.specs.Ruled.{decides_by}
-use Rattle.mq_witness.specs.declared.clients.Clients.{Clients}
+use Rattle.mq_shapes.specs.declared.clients.Clients.{Clients}
 use Rattle.mq_witness.specs.declared.topics.Topics.{Topics}
 use Rattle.mq_witness.specs.declared.topics.Topics.TheVariants.{Open}
 use Rattle.mq_differences.specs.ByOwner.{is_for}
@@ -35,7 +36,7 @@ use Rattle.mq_lint.specs.Cases.{AddsIn, AddsNone, AddsNoneIn, AreClasses, Finds,
 use Rattle.mq_lint.specs.Cases.{granted_in, is_at, maker_cover, would_grant}
 use Rattle.mq_lint.proofs.CaseLemmas.{point_asked}
 use Rattle.mq_lint.proofs.KindLemmas.{same_item}
-use Rattle.mq_lint.proofs.ListLemmas.{asked_parts, class_of}
+use Rattle.mq_lint.proofs.ListLemmas.{class_of}
 use Rattle.mq_lint.proofs.PointLemmas.{allows, decided, for_clients, same_allowed, unless_refused}
 
 -- ---- what rows that grant allow
@@ -221,11 +222,11 @@ granted_at rules row other client user name direction here f =
 
 pub makes_needless : (asked : AskedRows) (row other : AclRow) (classes : List Clients)
     → AreClasses asked row.who classes → may_make asked.rules other row ≡ true
-    → All (AddsNone asked row other) classes → MakesNeedless asked.rules asked.rows other row
+    → All (AddsNone asked row other) classes → MakesNeedless asked.rules other row
 makes_needless asked row other classes are kind each = record {
   kind = kind;
   same = λ client name user direction a v.
-      let fits = asked_parts asked.rules asked.rows client user a in
+      let fits = and_parts (can_be_id client) (can_be_user user) a in
       let here : AclRow → Bool = concerns_by asked.rules client user name in
       unless_refused asked.rules client user name direction
       (as_grant row ∷ (as_grant other ∷ [])) (as_grant other ∷ [])
@@ -241,7 +242,6 @@ makes_needless asked row other classes are kind each = record {
         is_asked = record {
           client_fits = fits.0;
           user_fits = class.here class.item;
-          are_asked = fits.2;
         };
         valid = v;
         taken = taken;
@@ -262,7 +262,7 @@ gained : (asked : AskedRows) (c : Clients) (row other : AclRow) (cover : List Ac
     → concerns_by asked.rules f.client f.user f.name row ≡ true
     → would_grant direction row.access ≡ true
     → (concerns_by asked.rules f.client f.user f.name other && would_grant direction other.access)
-    ≡ false → MakesNeedless asked.rules asked.rows other row → ⊥
+    ≡ false → MakesNeedless asked.rules other row → ⊥
 gained asked c row other cover direction f here so permits m =
     both_ways
     (concerns_by asked.rules f.client f.user f.name other && would_grant direction other.access)
@@ -305,7 +305,7 @@ not_granted p other false e = at (p other)
     at false = refl
 
 pub makes_nothing : (asked : AskedRows) (c : Clients) (row other : AclRow) (direction : Direction)
-    → AddsIn asked c row other direction → MakesNeedless asked.rules asked.rows other row → ⊥
+    → AddsIn asked c row other direction → MakesNeedless asked.rules other row → ⊥
 makes_nothing asked c row other direction w =
     let f = w.finds in
     let says = concerned_by (Open direction) asked c row (maker_cover direction other) f in
@@ -319,7 +319,7 @@ IsConcerned asked row c = Finds (Open (granted_in row.access)) asked c (row ∷ 
 
 pub others_make_nothing : (asked : AskedRows) (c : Clients) (row other : AclRow)
     → Contains asked.rows other → is_for c other.who ≡ false → IsConcerned asked row c
-    → MakesNeedless asked.rules asked.rows other row → ⊥
+    → MakesNeedless asked.rules other row → ⊥
 others_make_nothing asked c row other inside elsewhere f =
     let direction = granted_in row.access in
     let p = concerns_by asked.rules f.client f.user f.name other in
@@ -342,7 +342,7 @@ misses_own Own row other apart client name user e = apart client name user e
 misses_own Mosquitto row other apart client name user e = absurd apart
 
 pub misses : (asked : AskedRows) (c : Clients) (row other : AclRow) → IsConcerned asked row c
-    → MissesRow asked.rules row other → MakesNeedless asked.rules asked.rows other row → ⊥
+    → MissesRow asked.rules row other → MakesNeedless asked.rules other row → ⊥
 misses asked c row other f apart =
     let direction = granted_in row.access in
     let here = (concerned_by (Open direction) asked c row [] f).0 in
@@ -354,7 +354,7 @@ misses asked c row other f apart =
 -- ---- what the row allows by itself
 -- where it concerns a topic that the broker takes, something
 pub allows_some : (asked : AskedRows) (c : Clients) (row : AclRow) → IsConcerned asked row c
-    → AllowsNothing asked.rules asked.rows row → ⊥
+    → AllowsNothing asked.rules row → ⊥
 allows_some asked c row f none =
     let direction = granted_in row.access in
     let fits = client_user asked c f.user f.shown.is_asked.user_fits in
@@ -396,9 +396,9 @@ neither_way false g f = refl
 pub allows_nothing : (asked : AskedRows) (row : AclRow) (classes : List Clients)
     → AreClasses asked row.who classes
     → All (λ c. FindsNone (Open (granted_in row.access)) asked c (row ∷ []) []) classes
-    → AllowsNothing asked.rules asked.rows row
+    → AllowsNothing asked.rules row
 allows_nothing asked row classes are each client name user direction a v =
-    let fits = asked_parts asked.rules asked.rows client user a in
+    let fits = and_parts (can_be_id client) (can_be_user user) a in
     let here : AclRow → Bool = concerns_by asked.rules client user name in
     unless_refused asked.rules client user name direction (as_grant row ∷ []) []
     (λ taken. same_allowed asked.rules client user name direction (as_grant row ∷ []) []
@@ -411,7 +411,6 @@ allows_nothing asked row classes are each client name user direction a v =
       is_asked = record {
         client_fits = fits.0;
         user_fits = class.here class.item;
-        are_asked = fits.2;
       };
       valid = v;
       taken = open_there asked.rules row.access direction name so taken;
@@ -423,20 +422,20 @@ allows_nothing asked row classes are each client name user direction a v =
 pub makes_none_more : (rules : Rules) (rows : List Row) (called : List AclRow) (row : AclRow) (n : ℕ)
     (other : Row) → n < length rows → other ≡ get_or rows n other
     → (is_among called (row_view other) ≡ false
-    → MakesNeedless rules (row_views rows) (row_view other) row → ⊥)
+    → MakesNeedless rules (row_view other) row → ⊥)
     → MakesNone rules rows called row n → MakesNone rules rows called row (n + 1)
 makes_none_more rules rows called row n other low is here before place d below in_range =
     at (ltb place n) refl
   where
     at : (b : Bool) → ltb place n ≡ b
         → is_among called (row_view (get_or rows place d)) ≡ false
-        → MakesNeedless rules (row_views rows) (row_view (get_or rows place d)) row → ⊥
+        → MakesNeedless rules (row_view (get_or rows place d)) row → ⊥
     at true e = before place d (ltb-true place n e) in_range
     at false e =
         let above = ltb-false place n e in
         let same : n ≡ place = omega arith in
         subst (λ k. is_among called (row_view (get_or rows k d)) ≡ false
-        → MakesNeedless rules (row_views rows) (row_view (get_or rows k d)) row → ⊥) same
+        → MakesNeedless rules (row_view (get_or rows k d)) row → ⊥) same
         (subst (λ m. is_among called (row_view m) ≡ false
-        → MakesNeedless rules (row_views rows) (row_view m) row → ⊥)
+        → MakesNeedless rules (row_view m) row → ⊥)
         (is ∙ same_item rows n other d low) here)

@@ -18,7 +18,7 @@ use Rattle.mq_acl.specs.declared.rules.Rules.{Rules}
 use Rattle.mq_acl.specs.declared.rules.Rules.TheVariants.{Own, Mosquitto}
 use Rattle.mq_witness.specs.Asked.{AskedRows, is_client_of}
 use Rattle.mq_witness.specs.Rows.{is_name_of}
-use Rattle.mq_witness.specs.declared.clients.Clients.{Clients}
+use Rattle.mq_shapes.specs.declared.clients.Clients.{Clients}
 use Rattle.mq_differences.specs.ByOwner.{is_for, is_own}
 use Rattle.mq_differences.specs.Classes.{can_be_user}
 use Rattle.mq_differences.specs.Ranks.{is_judge, rank, rank_of}

@@ -18,7 +18,7 @@ use Rattle.mq_witness.specs.Asked.{AskedRows, is_client_of}
 use Rattle.mq_witness.specs.Clients.{name_passes}
 use Rattle.mq_witness.specs.Rows.{is_user_of}
 use Rattle.mq_witness.specs.Ruled.{IsShownBy, decides_by}
-use Rattle.mq_witness.specs.declared.clients.Clients.{Clients}
+use Rattle.mq_shapes.specs.declared.clients.Clients.{Clients}
 use Rattle.mq_witness.specs.declared.topics.Topics.{Topics}
 use Rattle.mq_witness.specs.declared.topics.Topics.TheVariants.{Open}
 use Rattle.mq_differences.specs.ByOwner.{everyones, is_own, own_rows}
@@ -90,7 +90,7 @@ before rules direction place rows = filter (is_before rules direction place) row
 -- ---- what the list with these rows allows without the row
 -- some client may do something else
 abbrev pub IsNeeded : AskedRows → List AclRow → AclRow → Type 0
-IsNeeded asked rows row = Differ asked.rules asked.rows rows (without row rows)
+IsNeeded asked rows row = Differ asked.rules rows (without row rows)
 
 -- these clients may do the same, in this direction
 abbrev pub IsNeedlessIn : AskedRows → List AclRow → Clients → AclRow → Direction → Type 0
@@ -148,7 +148,7 @@ pub record MeetsGrant (rules : Rules) (rows : List AclRow) (row : AclRow) : Type
   pub other : AclRow
   pub inside : Contains rows other
   pub grants_it : is_deny other.access ≡ false
-  pub meets : Meet rules rows row other
+  pub meets : Meet rules row other
 
 -- ---- the classes of a row
 -- each client that the row may concern is of one of these classes, and rows name their user names

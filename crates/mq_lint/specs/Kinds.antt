@@ -1,33 +1,28 @@
 -- What is shown of rows, by themselves and beside others.
-use Rattle.std.specs.Prelude.{◌≡◌, ◌<◌, ◌≤◌, ◌++◌, ℕ, false, List, [], ◌∷◌, Option, Some, None, length}
+use Rattle.std.specs.Prelude.{◌≡◌, ◌<◌, ◌≤◌, ◌++◌, ℕ, List, [], ◌∷◌, Option, Some, None, length}
 use Rattle.std.specs.Prelude.{drop, if◌then◌else◌, slice_index_or}
 use Rattle.mq_acl.specs.Rows.{AclRow}
 use Rattle.mq_acl.specs.Views.{row_view, row_views}
 use Rattle.mq_acl.specs.declared.row.Row.{Row}
 use Rattle.mq_acl.specs.declared.rules.Rules.{Rules}
-use Rattle.mq_lint.specs.Ids.{AreIds, ids_of, is_unknown}
-use Rattle.mq_lint.specs.Needless.{AllowSame, DeniesNone, Differ, IsIdle, IsKept, IsKind, called_behind}
+use Rattle.mq_lint.specs.Needless.{AllowSame, DeniesNone, Differ, IsKept, IsKind, called_behind}
 use Rattle.mq_lint.specs.Needless.{called_of, is_needless, repeated, without, without_all}
-use Rattle.mq_lint.specs.declared.ids.Ids.{Ids}
 use Rattle.mq_lint.specs.declared.remark.RemarkKind.{RemarkKind}
 use Rattle.mq_lint.specs.declared.remark.RemarkKind.TheVariants.{Repeats, DeniesNothing}
 use Rattle.mq_lint.specs.declared.remark.RemarkKind.TheVariants.{Needless}
 
 -- ---- by themselves
 -- without the row, and those that repeat it, the list allows the same
-pub record IsSpare (rules : Rules) (rows : List Row) (row : AclRow) (ids : Ids) : Type 0 where
-  pub whom : AreIds rules (row_views rows) ids
-  pub known : is_unknown ids row ≡ false
+pub record IsSpare (rules : Rules) (rows : List Row) (row : AclRow) : Type 0 where
   pub denies_some : DeniesNone rules rows row → ⊥
-  pub alone : AllowSame rules (row_views rows) (row_views rows) (without row (row_views rows))
+  pub alone : AllowSame rules (row_views rows) (without row (row_views rows))
 
 -- this is shown of the row, where it doesn't repeat another
 abbrev pub IsAlone : Rules → List Row → AclRow → Option RemarkKind → Type 0
-IsAlone rules rows row (Some (DeniesNothing ids)) = IsIdle rules rows row ids
-IsAlone rules rows row (Some (Needless ids by)) = IsSpare rules rows row ids
+IsAlone rules rows row (Some DeniesNothing) = DeniesNone rules rows row
+IsAlone rules rows row (Some (Needless by)) = IsSpare rules rows row
 IsAlone rules rows row (Some kind) = ⊥
-IsAlone rules rows row None = is_unknown (ids_of rules (row_views rows)) row ≡ false
-    → Differ rules (row_views rows) (row_views rows) (without row (row_views rows))
+IsAlone rules rows row None = Differ rules (row_views rows) (without row (row_views rows))
 
 abbrev pub IsFirstUnless : Rules → List Row → AclRow → Option ℕ → Option RemarkKind → Type 0
 IsFirstUnless rules rows row (Some line) kind = kind ≡ Some (Repeats line)
@@ -46,19 +41,17 @@ AreFirst rules rows kinds = (place : ℕ) (row : Row) (kind : Option RemarkKind)
 
 -- ---- beside those that are called needless behind them
 -- without the row, and those that repeat it, the list allows the same, and so it does without it and those behind
-pub record IsCalled (rules : Rules) (rows : List Row) (behind : List AclRow) (row : AclRow)
-    (ids : Ids) : Type 0 where
-  pub spare : IsSpare rules rows row ids
-  pub beside : AllowSame rules (row_views rows) (row_views rows)
-      (without_all (behind ++ row ∷ []) (row_views rows))
+pub record IsCalled (rules : Rules) (rows : List Row) (behind : List AclRow) (row : AclRow) :
+    Type 0 where
+  pub spare : IsSpare rules rows row
+  pub beside : AllowSame rules (row_views rows) (without_all (behind ++ row ∷ []) (row_views rows))
 
 abbrev pub IsBesideAlone : Rules → List Row → (behind : List AclRow) → AclRow → Option RemarkKind
     → Type 0
-IsBesideAlone rules rows behind row (Some (DeniesNothing ids)) = IsIdle rules rows row ids
-IsBesideAlone rules rows behind row (Some (Needless ids by)) = IsCalled rules rows behind row ids
+IsBesideAlone rules rows behind row (Some DeniesNothing) = DeniesNone rules rows row
+IsBesideAlone rules rows behind row (Some (Needless by)) = IsCalled rules rows behind row
 IsBesideAlone rules rows behind row (Some kind) = ⊥
-IsBesideAlone rules rows behind row None =
-    is_unknown (ids_of rules (row_views rows)) row ≡ false → IsKept rules rows behind row
+IsBesideAlone rules rows behind row None = IsKept rules rows behind row
 
 abbrev pub IsBesideUnless : Rules → List Row → (behind : List AclRow) → AclRow → Option ℕ
     → Option RemarkKind → Type 0
@@ -80,7 +73,7 @@ pub record CalledFrom (rules : Rules) (rows : List Row) (place : ℕ) (kinds : L
     (called : List AclRow) : Type 0 where
   pub count : length kinds ≡ length rows
   pub are : called ≡ called_of (drop place rows) (drop place kinds)
-  pub same : AllowSame rules (row_views rows) (row_views rows) (without_all called (row_views rows))
+  pub same : AllowSame rules (row_views rows) (without_all called (row_views rows))
   pub before : (k : ℕ) (row : Row) (kind : Option RemarkKind) → k < place → k < length rows
       → IsFirst rules rows k (slice_index_or rows k row) (slice_index_or kinds k kind)
   pub behind : (k : ℕ) (row : Row) (kind : Option RemarkKind) → place ≤ k → k < length rows
@@ -96,5 +89,5 @@ pub record AreKinds (rules : Rules) (rows : List Row) (kinds : List (Option Rema
   pub each : (place : ℕ) (row : Row) (kind : Option RemarkKind) → place < length rows
       → IsKind rules rows (called_of rows kinds) (called_behind place rows kinds) place
       (slice_index_or rows place row) (slice_index_or kinds place kind)
-  pub together : AllowSame rules (row_views rows) (row_views rows)
+  pub together : AllowSame rules (row_views rows)
       (without_all (called_of rows kinds) (row_views rows))

@@ -1,7 +1,6 @@
 pub mod Blanks
 pub mod Cases
 pub mod Hidden
-pub mod Ids
 pub mod Kinds
 pub mod Left
 pub mod Needless

@@ -15,37 +15,33 @@ use Rattle.mq_acl.specs.Views.{row_view, row_views}
 use Rattle.mq_acl.specs.declared.access.Direction.{Direction}
 use Rattle.mq_acl.specs.declared.row.Row.{Row}
 use Rattle.mq_witness.specs.Clients.{can_be_id}
-use Rattle.mq_witness.specs.Ruled.{are_asked_of}
 use Rattle.mq_differences.specs.Classes.{can_be_user}
 use Rattle.mq_differences.specs.Marks.{same_who}
 use Rattle.mq_differences.specs.Ranks.{rank}
-use Rattle.mq_lint.specs.Ids.{AreIds, ids_of, is_unknown}
-use Rattle.mq_lint.specs.declared.ids.Ids.{Ids}
 use Rattle.mq_lint.specs.declared.remark.Remark.{Remark}
 use Rattle.mq_lint.specs.declared.remark.RemarkKind.{RemarkKind}
 use Rattle.mq_lint.specs.declared.remark.RemarkKind.TheVariants.{Repeats, DeniesNothing}
 use Rattle.mq_lint.specs.declared.remark.RemarkKind.TheVariants.{Needless}
 
 -- ---- what lists allow
--- a client that a broker can have, and that is asked about where a list has these rows
-abbrev pub is_asked : Rules → (all : List AclRow) → List ℕ → Option (List ℕ) → Bool
-is_asked rules all client user =
-    can_be_id client && (can_be_user user && are_asked_of rules all client user)
+-- a client that a broker can have
+abbrev pub is_client : List ℕ → Option (List ℕ) → Bool
+is_client client user = can_be_id client && can_be_user user
 
--- by these rules all clients that are asked about may do the same by both
-abbrev pub AllowSame : Rules → (all one other : List AclRow) → Type 0
-AllowSame rules all one other = (client name : List ℕ) (user : Option (List ℕ))
-    (direction : Direction) → is_asked rules all client user ≡ true → is_name name ≡ true
+-- by these rules all clients may do the same by both
+abbrev pub AllowSame : Rules → (one other : List AclRow) → Type 0
+AllowSame rules one other = (client name : List ℕ) (user : Option (List ℕ))
+    (direction : Direction) → is_client client user ≡ true → is_name name ≡ true
     → allow_by rules one client user name direction
     ≡ allow_by rules other client user name direction
 
 -- some client may do by the one list what it may not by the other
-pub record Differ (rules : Rules) (all one other : List AclRow) : Type 0 where
+pub record Differ (rules : Rules) (one other : List AclRow) : Type 0 where
   pub client : List ℕ
   pub user : Option (List ℕ)
   pub name : List ℕ
   pub direction : Direction
-  pub fits : is_asked rules all client user ≡ true
+  pub fits : is_client client user ≡ true
   pub valid : is_name name ≡ true
   pub differs : allow_by rules one client user name direction
       ≢ allow_by rules other client user name direction
@@ -81,12 +77,12 @@ abbrev pub without_all : List AclRow → List AclRow → List AclRow
 without_all some rows = filter (λ row. not (is_among some row)) rows
 
 -- ---- rows that meet
--- of a client that is asked about, both concern a topic
-pub record Meet (rules : Rules) (all : List AclRow) (one other : AclRow) : Type 0 where
+-- of some client both concern a topic
+pub record Meet (rules : Rules) (one other : AclRow) : Type 0 where
   pub client : List ℕ
   pub user : Option (List ℕ)
   pub name : List ℕ
-  pub fits : is_asked rules all client user ≡ true
+  pub fits : is_client client user ≡ true
   pub valid : is_name name ≡ true
   pub first : concerns_by rules client user name one ≡ true
   pub second : concerns_by rules client user name other ≡ true
@@ -96,13 +92,7 @@ pub record DeniesNone (rules : Rules) (rows : List Row) (row : AclRow) : Type 0 
   pub denies : is_deny row.access ≡ true
   pub meets_none : (place : ℕ) (d : Row) → place < length rows
       → is_deny (row_view (slice_index_or rows place d)).access ≡ false
-      → Meet rules (row_views rows) row (row_view (slice_index_or rows place d)) → ⊥
-
--- it is shown to deny nothing to clients of these ids, of whom enough is known
-pub record IsIdle (rules : Rules) (rows : List Row) (row : AclRow) (ids : Ids) : Type 0 where
-  pub whom : AreIds rules (row_views rows) ids
-  pub known : is_unknown ids row ≡ false
-  pub none : DeniesNone rules rows row
+      → Meet rules row (row_view (slice_index_or rows place d)) → ⊥
 
 -- ---- what makes a row needless
 abbrev pub granted_access : Access → Access
@@ -124,14 +114,14 @@ may_make rules other row = says_as other row || nat_lt (rank rules other) (rank 
 
 -- the other row makes this one needless: it may, and of the two alone, a row that denies taken for
 -- one that grants, the one without this row allows the same
-pub record MakesNeedless (rules : Rules) (all : List AclRow) (other row : AclRow) : Type 0 where
+pub record MakesNeedless (rules : Rules) (other row : AclRow) : Type 0 where
   pub kind : may_make rules other row ≡ true
-  pub same : AllowSame rules all (as_grant row ∷ (as_grant other ∷ [])) (as_grant other ∷ [])
+  pub same : AllowSame rules (as_grant row ∷ (as_grant other ∷ [])) (as_grant other ∷ [])
 
 -- by itself the row, taken for one that grants, allows nothing: the broker refuses all that it covers,
 -- or it covers nothing
-abbrev pub AllowsNothing : Rules → (all : List AclRow) → AclRow → Type 0
-AllowsNothing rules all row = AllowSame rules all (as_grant row ∷ []) []
+abbrev pub AllowsNothing : Rules → AclRow → Type 0
+AllowsNothing rules row = AllowSame rules (as_grant row ∷ []) []
 
 -- a row that isn't called needless, nor repeats one that is, makes it needless
 pub record IsMaker (rules : Rules) (rows : List Row) (called : List AclRow) (row : AclRow)
@@ -141,30 +131,30 @@ pub record IsMaker (rules : Rules) (rows : List Row) (called : List AclRow) (row
   pub is : other ≡ slice_index_or rows place other
   pub line_is : line ≡ other.line
   pub stays : is_among called (row_view other) ≡ false
-  pub makes : MakesNeedless rules (row_views rows) (row_view other) row
+  pub makes : MakesNeedless rules (row_view other) row
 
 -- none of the rows before this place that aren't called needless does
 abbrev pub MakesNone : Rules → List Row → List AclRow → AclRow → ℕ → Type 0
 MakesNone rules rows called row n = (place : ℕ) (d : Row) → place < n → place < length rows
     → is_among called (row_view (slice_index_or rows place d)) ≡ false
-    → MakesNeedless rules (row_views rows) (row_view (slice_index_or rows place d)) row → ⊥
+    → MakesNeedless rules (row_view (slice_index_or rows place d)) row → ⊥
 
 -- the first row that does, of a row that allows something
 pub record IsFirstMaker (rules : Rules) (rows : List Row) (called : List AclRow) (row : AclRow)
     (line : ℕ) : Type 0 where
-  pub allows : AllowsNothing rules (row_views rows) row → ⊥
+  pub allows : AllowsNothing rules row → ⊥
   pub place : ℕ
   pub maker : IsMaker rules rows called row place line
   pub first : MakesNone rules rows called row place
 
 abbrev pub IsBy : Rules → List Row → List AclRow → AclRow → Option ℕ → Type 0
 IsBy rules rows called row (Some line) = IsFirstMaker rules rows called row line
-IsBy rules rows called row None = AllowsNothing rules (row_views rows) row
+IsBy rules rows called row None = AllowsNothing rules row
     ⊎ MakesNone rules rows called row (length rows)
 
 -- ---- which rows are called needless
 abbrev pub is_needless : Option RemarkKind → Bool
-is_needless (Some (Needless ids by)) = true
+is_needless (Some (Needless by)) = true
 is_needless kind = false
 
 -- of these rows those that are called so, the last first
@@ -178,35 +168,29 @@ abbrev pub called_behind : ℕ → List Row → List (Option RemarkKind) → Lis
 called_behind place rows kinds = called_of (drop (place + 1) rows) (drop (place + 1) kinds)
 
 -- ---- what is shown
--- to clients of these ids, of whom enough is known, the list allows the same without the row and those that repeat it,
--- and so it does without it and those that are called needless behind it; this makes it so
+-- the list allows the same without the row and those that repeat it, and so it does without it and those that are
+-- called needless behind it; this makes it so
 pub record IsNeedless (rules : Rules) (rows : List Row) (called behind : List AclRow) (row : AclRow)
-    (ids : Ids) (by : Option ℕ) : Type 0 where
-  pub whom : AreIds rules (row_views rows) ids
-  pub known : is_unknown ids row ≡ false
+    (by : Option ℕ) : Type 0 where
   pub denies_some : DeniesNone rules rows row → ⊥
-  pub alone : AllowSame rules (row_views rows) (row_views rows) (without row (row_views rows))
-  pub beside : AllowSame rules (row_views rows) (row_views rows)
-      (without_all (behind ++ row ∷ []) (row_views rows))
+  pub alone : AllowSame rules (row_views rows) (without row (row_views rows))
+  pub beside : AllowSame rules (row_views rows) (without_all (behind ++ row ∷ []) (row_views rows))
   pub makes : IsBy rules rows called row by
 
 -- without the row, or without it and those that are called needless behind it, some client may do what
 -- it may not by the list, or the other way round
 abbrev pub IsKept : Rules → List Row → (behind : List AclRow) → AclRow → Type 0
-IsKept rules rows behind row =
-    Differ rules (row_views rows) (row_views rows) (without row (row_views rows))
-    ⊎ Differ rules (row_views rows) (row_views rows)
-    (without_all (behind ++ row ∷ []) (row_views rows))
+IsKept rules rows behind row = Differ rules (row_views rows) (without row (row_views rows))
+    ⊎ Differ rules (row_views rows) (without_all (behind ++ row ∷ []) (row_views rows))
 
 -- this is shown of a row that doesn't repeat another
 abbrev pub IsKindAlone : Rules → List Row → (called behind : List AclRow) → AclRow
     → Option RemarkKind → Type 0
-IsKindAlone rules rows called behind row (Some (DeniesNothing ids)) = IsIdle rules rows row ids
-IsKindAlone rules rows called behind row (Some (Needless ids by)) =
-    IsNeedless rules rows called behind row ids by
+IsKindAlone rules rows called behind row (Some DeniesNothing) = DeniesNone rules rows row
+IsKindAlone rules rows called behind row (Some (Needless by)) =
+    IsNeedless rules rows called behind row by
 IsKindAlone rules rows called behind row (Some kind) = ⊥
-IsKindAlone rules rows called behind row None =
-    is_unknown (ids_of rules (row_views rows)) row ≡ false → IsKept rules rows behind row
+IsKindAlone rules rows called behind row None = IsKept rules rows behind row
 
 abbrev pub IsKindUnless : Rules → List Row → (called behind : List AclRow) → AclRow → Option ℕ
     → Option RemarkKind → Type 0
@@ -234,6 +218,6 @@ pub record AreNeedless (rules : Rules) (rows : List Row) (shown : List Remark) :
   pub each : (place : ℕ) (row : Row) (kind : Option RemarkKind) → place < length rows
       → IsKind rules rows (called_of rows kinds) (called_behind place rows kinds) place
       (slice_index_or rows place row) (slice_index_or kinds place kind)
-  pub together : AllowSame rules (row_views rows) (row_views rows)
+  pub together : AllowSame rules (row_views rows)
       (without_all (called_of rows kinds) (row_views rows))
   pub remarks : shown ≡ remarks_of_kinds rows kinds

@@ -13,7 +13,6 @@ mod called;
 mod case;
 mod fault;
 mod hidden;
-mod ids;
 mod lint;
 mod linted;
 mod maker;
@@ -24,7 +23,6 @@ mod repeats;
 mod same;
 
 pub use fault::NeedlessFault;
-pub use ids::Ids;
 pub use lint::remarks;
 pub use needless_lines::needless;
 pub use remark::{Remark, RemarkKind};

@@ -1,17 +1,15 @@
 //! A list that is asked which of its rows are needless.
 ghost use Rattle.std.specs.Prelude.{◌≡◌, ◌<◌, ◌∷◌, [], IfOk, IfErr, true, map, length};
-ghost use Rattle.mq_acl.specs.Views.{owner_view, row_view, row_views};
+ghost use Rattle.mq_acl.specs.Views.{owner_view, row_view};
 ghost use Rattle.mq_witness.specs.Clients.{name_passes};
 ghost use Rattle.mq_witness.specs.Rows.{is_user_of};
-ghost use Rattle.mq_witness.specs.declared.clients.Clients.TheVariants.{Anonymous, Named, Others};
+ghost use Rattle.mq_shapes.specs.declared.clients.Clients.TheVariants.{Anonymous, Named, Others};
 ghost use Rattle.mq_lint.specs.Cases.{AreClasses, IsLint, has_row};
-ghost use Rattle.mq_lint.specs.Ids.{ids_of};
 ghost use Rattle.mq_lint.specs.Left.{left_of};
 
 use crate::called::Called;
 use crate::case::{Case, add_others};
 use crate::fault::NeedlessFault;
-use crate::ids::{Ids, ids_of};
 use crate::question::Question;
 use mq_acl::{Owner, Row, Rules};
 use mq_differences::{ByOwner, enough_steps};
@@ -26,12 +24,9 @@ pub(crate) struct Lint<'a> {
     by_owner: ByOwner<'a>,
     /// All clients: those of user names that no row names first, since a row for some clients alone isn't for them.
     classes: Vec<Clients<'a>>,
-    /// Whom remarks are about.
-    pub ids: Ids,
     /// Whether the steps are.
     pub limited: bool,
     ghost is_lint: { IsLint rules rows.now asked by_owner classes.items },
-    ghost ids_are: { ids ≡ ids_of rules (row_views rows.now) },
 }
 
 // Opaque to callers' proofs: one step, and not one for each field (docs/explanation/gate.md).
@@ -43,7 +38,6 @@ impl Drop for Lint<'_> {
             asked: _,
             by_owner: _,
             classes: _,
-            ids: _,
             limited: _,
         } = self;
     }
@@ -99,7 +93,6 @@ impl<'a> Lint<'a> {
             asked,
             by_owner,
             classes,
-            ids: ids_of(rules, rows),
             limited: steps < enough_steps(rows.len()),
         })
     }

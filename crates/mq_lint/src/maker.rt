@@ -3,7 +3,7 @@ ghost use Rattle.std.specs.Prelude.{◌≡◌, ◌&&◌, IfOk, IfErr, IfSome, If
 ghost use Rattle.std.specs.Prelude.{Contains, [], ◌∷◌, length};
 ghost use Rattle.std.specs.Option.{option_copied};
 ghost use Rattle.mq_acl.specs.Access.{is_deny};
-ghost use Rattle.mq_acl.specs.Views.{access_view, owner_view, row_view, row_views};
+ghost use Rattle.mq_acl.specs.Views.{access_view, owner_view, row_view};
 ghost use Rattle.mq_acl.specs.declared.access.Direction.{Direction};
 ghost use Rattle.mq_witness.specs.Rows.{lent_rows};
 ghost use Rattle.mq_witness.specs.declared.topics.Topics.TheVariants.{Open};
@@ -132,10 +132,9 @@ fn makes_needless(
     requires row { has_row (row_view row.now) lint.now.asked.rows ≡ true }
     requires other { Contains lint.now.asked.rows (row_view other.now) }
     ensures makes { IfOk result (λ makes. makes ≡ true
-        → MakesNeedless lint.now.asked.rules lint.now.asked.rows (row_view other.now) (row_view row.now)) }
+        → MakesNeedless lint.now.asked.rules (row_view other.now) (row_view row.now)) }
     ensures other { IfOk result (λ makes. makes ≡ false
-        → MakesNeedless lint.now.asked.rules lint.now.asked.rows (row_view other.now) (row_view row.now)
-        → ⊥) }
+        → MakesNeedless lint.now.asked.rules (row_view other.now) (row_view row.now) → ⊥) }
     ensures fault { IfErr result (IsStop row.now.line lint.now.limited) }
 {
     if !may_make(lint.rules, other, row) {
@@ -167,10 +166,9 @@ fn concerned<'c>(
         (Open (granted_in (row_view row.entry.now).access)) lint.entry.now.asked clients
         (row_view row.entry.now ∷ []) [])) }
     ensures allows { IfOk result (λ found. IfSome found (λ clients.
-        AllowsNothing lint.entry.now.asked.rules (row_views lint.entry.now.rows.now)
-        (row_view row.entry.now) → ⊥)) }
-    ensures none { IfOk result (λ found. IfNone found (AllowsNothing lint.entry.now.asked.rules
-        (row_views lint.entry.now.rows.now) (row_view row.entry.now))) }
+        AllowsNothing lint.entry.now.asked.rules (row_view row.entry.now) → ⊥)) }
+    ensures none { IfOk result (λ found. IfNone found
+        (AllowsNothing lint.entry.now.asked.rules (row_view row.entry.now))) }
     ensures fault { IfErr result (IsStop row.entry.now.line lint.entry.now.limited) }
 {
     let open = Topics::Open(granted_in(row.access));

@@ -20,7 +20,6 @@ ghost use Rattle.mq_lint.specs.declared.remark.RemarkKind.{RemarkKind};
 
 use crate::called::Called;
 use crate::fault::NeedlessFault;
-use crate::ids::is_unknown;
 use crate::linted::Lint;
 use crate::maker::maker;
 use crate::remark::{Remark, RemarkKind};
@@ -42,7 +41,7 @@ fn is_needed<'c, 'a>(
     ensures needed { IfOk result (λ needed. needed ≡ true
         → IsNeeded lint.entry.now.asked (left_of lint.entry.now.asked called.entry.now) (row_view row.entry.now)) }
     ensures needless { IfOk result (λ needed. needed ≡ false → AllowSame lint.entry.now.asked.rules
-        lint.entry.now.asked.rows (left_of lint.entry.now.asked called.entry.now)
+        (left_of lint.entry.now.asked called.entry.now)
         (without (row_view row.entry.now) (left_of lint.entry.now.asked called.entry.now))) }
     ensures fault { IfErr result (IsStop row.entry.now.line lint.entry.now.limited) }
 {
@@ -128,16 +127,13 @@ fn kind_alone<'a>(
     ensures kind { IfOk result (IsAlone lint.entry.now.asked.rules lint.entry.now.rows.now (row_view row.now)) }
     ensures fault { IfErr result (IsStop row.now.line lint.entry.now.limited) }
 {
-    if is_unknown(lint.ids, row) {
-        return Ok(None);
-    }
     if denies_nothing(alloc, lint, steps, none, row)? {
-        return Ok(Some(RemarkKind::DeniesNothing(lint.ids)));
+        return Ok(Some(RemarkKind::DeniesNothing));
     }
     if is_needed(alloc, lint, steps, none, row)? {
         return Ok(None);
     }
-    Ok(Some(RemarkKind::Needless(lint.ids, None)))
+    Ok(Some(RemarkKind::Needless(None)))
 }
 
 // What is said by itself of the row at this place, if anything is, where this is the line that it repeats.
@@ -202,7 +198,7 @@ fn first_kinds<'a>(
 fn is_needless(kind: Option<RemarkKind>) -> bool
     ensures { result ≡ is_needless kind }
 {
-    matches!(kind, Some(RemarkKind::Needless(_, _)))
+    matches!(kind, Some(RemarkKind::Needless(_)))
 }
 
 // Whether the list that is left allows some clients something else without the row at this place. Without one that is
@@ -221,7 +217,7 @@ fn is_needed_at<'a>(
     ensures needed { IfOk result (λ needed. needed ≡ true
         → IsNeeded lint.entry.now.asked (left_of lint.entry.now.asked called.entry.now) (row_view row.now)) }
     ensures needless { IfOk result (λ needed. needed ≡ false → AllowSame lint.entry.now.asked.rules
-        lint.entry.now.asked.rows (left_of lint.entry.now.asked called.entry.now)
+        (left_of lint.entry.now.asked called.entry.now)
         (without (row_view row.now) (left_of lint.entry.now.asked called.entry.now))) }
     ensures fault { IfErr result (IsStop row.now.line lint.entry.now.limited) }
 {
@@ -247,7 +243,7 @@ fn kind_beside<'a>(
     requires place { place < length lint.now.rows.now }
     requires row { row.now ≡ slice_index_or lint.now.rows.now place row.now }
     requires kind { IsFirst lint.now.asked.rules lint.now.rows.now place row.now kind }
-    requires same { AllowSame lint.now.asked.rules lint.now.asked.rows lint.now.asked.rows
+    requires same { AllowSame lint.now.asked.rules lint.now.asked.rows
         (left_of lint.now.asked called.now) }
     ensures kind { IfOk result (IsBeside lint.entry.now.asked.rules lint.entry.now.rows.now
         (lent_rows called.entry.now.called.items) place row.now) }
@@ -331,9 +327,9 @@ fn with_maker<'a>(
     ensures fault { IfErr result (IsStop row.now.line lint.entry.now.limited) }
 {
     match kind {
-        Some(RemarkKind::Needless(ids, _)) => {
+        Some(RemarkKind::Needless(_)) => {
             let by = maker(alloc, lint, steps, called, row)?;
-            Ok(Some(RemarkKind::Needless(ids, by)))
+            Ok(Some(RemarkKind::Needless(by)))
         }
         _ => Ok(kind),
     }
@@ -408,8 +404,8 @@ fn remarks_of_kinds(
 }
 
 /// By these rules: the lines without which the list allows the same, each by itself and all together,
-/// and those that repeat another or deny what no line grants: in the order of the rows. Each but a
-/// repeat says for which client ids and user names it is so.
+/// and those that repeat another or deny what no line grants: in the order of the rows. By both sets
+/// of rules each remark is about every client that a broker can have.
 ///
 /// A step is a row that is looked at for one question, or as much work as that takes. Where the
 /// steps don't suffice nothing is answered, so that an answer is always the whole one. So many as

@@ -1,4 +1,3 @@
-use crate::ids::Ids;
 use mq_acl::AclKind;
 
 /// What is odd about a line of an access list.
@@ -19,12 +18,12 @@ pub enum RemarkKind {
     /// The line says the same as an earlier one: for the same clients, with the same access and the
     /// same filter. The other line is the first that does.
     Repeats(u64),
-    /// The line denies, and no line grants to any client with these ids what it denies. It may be there to guard.
-    DeniesNothing(Ids),
-    /// Without the line, and those that repeat it, the list allows the same to all clients with these
-    /// ids, and so it does without all lines of which this is said. The other line, where one is named,
-    /// is the first that stays and alone makes it so; where none is, it takes several.
-    Needless(Ids, Option<u64>),
+    /// The line denies, and no line grants to any client what it denies. It may be there to guard.
+    DeniesNothing,
+    /// Without the line, and those that repeat it, the list allows the same to every client, and so it
+    /// does without all lines of which this is said. The other line, where one is named, is the first
+    /// that stays and alone makes it so; where none is, it takes several.
+    Needless(Option<u64>),
 }
 
 /// A remark on a line of an access list.

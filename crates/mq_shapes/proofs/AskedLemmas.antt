@@ -1,5 +1,5 @@
 -- Rows of lists of which no level begins with what stands for others.
-use Rattle.std.proofs.Common.{◌≡◌, ℕ, Bool, true, false, not, List, [], ◌∷◌, ◌||◌, ◌&&◌}
+use Rattle.std.proofs.Common.{◌++◌, ◌≡◌, ℕ, Bool, true, false, not, List, [], ◌∷◌, ◌||◌, ◌&&◌}
 use Rattle.std.proofs.Common.{refl, ap, sym, ◌∙◌, arith, length, bytes_eq}
 use Rattle.std.specs.Prelude.{All, Contains, nat_eq}
 use denote.Ref.{Bor}
@@ -26,7 +26,7 @@ use Rattle.mq_shapes.specs.Prefix.{ArePrefixes, CanBeAsked, begins, is_name_of, 
 use Rattle.mq_shapes.specs.Prefix.{is_user_of, owner_begins, row_begins, short_owner, some_begins}
 use Rattle.mq_shapes.proofs.PrefixLemmas.{are_short, begins_so, fits_all, fits_by, fresh_so, levels_most}
 use Rattle.mq_shapes.proofs.PrefixLemmas.{none_all, others_fit}
-use Rattle.mq_shapes.specs.Ruled.{AreKnown, AreRuled, all_listed, is_front, names_listed}
+use Rattle.mq_shapes.specs.Ruled.{are_literal, AreKnown, AreRuled, all_listed, is_front, names_listed}
 use Rattle.mq_shapes.specs.declared.clients.Clients.TheVariants as clients
 use Rattle.mq_unify.specs.General.{is_sound}
 use Rattle.mq_unify.specs.Rows.{rows_fit}
@@ -225,16 +225,21 @@ module _ (o : Others) (rows : List AclRow) (are : ArePrefixes rows o.plain.now o
   }
 
   -- and by mosquitto's rules, where these are all user names that rows are for
-  pub asked_ruled : (start : Start) (users : List (Bor (List ℕ))) (must cover : List AclRow)
-      → is_front start ≡ true → list_all (λ name. is_user_of name.now rows) users ≡ true
-      → all_listed users rows ≡ true → All (Contains rows) must → All (Contains rows) cover
-      → AreRuled o start users must cover
-  asked_ruled start users must cover front named listed must_in cover_in = record {
-    ready = all_ready start users must cover (front_ends start front) named must_in cover_in;
-    begun = front;
-    must_listed = all_contained (λ row. names_listed users row.who) rows must listed must_in;
-    cover_listed = all_contained (λ row. names_listed users row.who) rows cover listed cover_in;
-  }
+  pub asked_ruled : (start : Start) (users : List (Bor (List ℕ)))
+      (within must cover : List AclRow) → is_front start ≡ true
+      → list_all (λ name. is_user_of name.now rows) users ≡ true → all_listed users rows ≡ true
+      → are_literal within ≡ true → All (Contains rows) (within ++ must)
+      → All (Contains rows) must → All (Contains rows) cover
+      → AreRuled o start users within must cover
+  asked_ruled start users within must cover front named listed literal firsts_in must_in cover_in =
+      record {
+        ready = all_ready start users (within ++ must) cover (front_ends start front) named firsts_in
+            cover_in;
+        literal = literal;
+        begun = front;
+        must_listed = all_contained (λ row. names_listed users row.who) rows must listed must_in;
+        cover_listed = all_contained (λ row. names_listed users row.who) rows cover listed cover_in;
+      }
     where
       front_ends : (start : Start) → is_front start ≡ true → ends start ≡ false
       front_ends Plain h = refl

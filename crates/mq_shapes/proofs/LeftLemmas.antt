@@ -83,14 +83,19 @@ some_level : (start : Start) (ls : List (List ℕ)) → ends start ≡ false →
 some_level start [] e h = absurd (let k : false ≡ true = sym e ∙ h in cc)
 some_level start (l ∷ ls) e h = omega arith
 
+pub name_levels : (start : Start) (must cover : List Remainder) (ls : List (List ℕ))
+    (topic : List ℕ) → ends start ≡ false → topic ≡ join_levels ls
+    → IsFound start 200 no_marks must cover ls → levels topic ≡ ls
+name_levels start must cover ls topic e is found =
+    ap levels is ∙ levels_joined ls (some_level start ls e found.suitable) (names_lack ls found.valid)
+
 pub name_matched : (start : Start) (must cover : List Remainder)
     (firsts others : List (List (List ℕ))) (ls : List (List ℕ)) (topic : List ℕ)
     → ends start ≡ false → AreLeft must firsts → AreLeft cover others
     → topic ≡ join_levels ls → IsFound start 200 no_marks must cover ls
     → IsMatched start firsts others topic
 name_matched start must cover firsts others ls topic e m c is found =
-    let same : levels topic ≡ ls = ap levels is ∙ levels_joined ls
-    (some_level start ls e found.suitable) (names_lack ls found.valid) in
+    let same = name_levels start must cover ls topic e is found in
     record {
       suitable = ap (suits start) same ∙ found.suitable;
       few = subst (λ l. length l ≤ 200) (sym same) found.few;

@@ -1,4 +1,14 @@
 pub mod FilledLemmas
+pub mod CoveredLemmas
+pub mod OpenLemmas
+pub mod ApartLemmas
+pub mod FewLemmas
+pub mod MarkLemmas
+pub mod FewIdLemmas
+pub mod ShortIdLemmas
+pub mod CountLemmas
+pub mod TotalLemmas
+pub mod PassLemmas
 pub mod PathLemmas
 pub mod LeftLemmas
 pub mod RowLemmas
@@ -14,5 +24,8 @@ pub mod AskedLemmas
 pub mod OccursLemmas
 pub mod HiddenLemmas
 pub mod ConcernLemmas
+pub mod WithinLemmas
+pub mod ElsewhereLemmas
 pub mod KeptLemmas
 pub mod OddLemmas
+pub mod SwapLemmas

@@ -1,4 +1,4 @@
--- Where one of the first rows has `%c`, no client whose id has more than 200 levels has a topic; and so with `%u`.
+-- Where one of the first rows has `%c`, no client whose id has more levels than their topics has one; and so with `%u`.
 use Rattle.std.proofs.Common.{◌≡◌, ◌∙◌, ◌&&◌, ◌||◌, ◌==◌, ◌+◌, ◌≤◌, ◌<◌, ◌⊎◌, ℕ, Bool, true, false, not, List, []}
 use Rattle.std.proofs.Common.{◌∷◌, ◌++◌, Bor, Option, Some, None, ap, arith, bytes_eq, codes, inl, inr, length}
 use Rattle.std.proofs.Common.{length-append, refl, sym}
@@ -24,6 +24,7 @@ use Rattle.mq_unify.proofs.JoinLemmas.{length-values}
 use Rattle.mq_unify.proofs.MadeLemmas.{client_made, user_made}
 use Rattle.mq_shapes.specs.Found.{FindsNone, row_hits}
 use Rattle.mq_shapes.specs.Every.{has_client_mark, has_user_mark, with_levels}
+use Rattle.mq_shapes.specs.Total.{HaveAtMost}
 use Rattle.mq_shapes.proofs.AnyLemmas.{beside_client, beside_user}
 
 -- what goes along with levels has as many, and goes on behind them
@@ -143,9 +144,10 @@ user_row count most values client user ls row some c m h =
     (levels row.filter) (levels_lack row.filter) (m.whole both.0) both.1 ls made_so
 
 pub no_long_ids : (start : Start) (of : UserShape) (users : List (Bor (List ℕ)))
-    (must cover : List AclRow) → list_any has_client_mark must ≡ true → (count : ℕ) → 200 < count
+    (must cover : List AclRow) → list_any has_client_mark must ≡ true → (most : ℕ)
+    → HaveAtMost must most → (count : ℕ) → most < count
     → FindsNone start (with_levels count of) users must cover
-no_long_ids start of users must cover marked count long values client user ls has m c u t s n =
+no_long_ids start of users must cover marked most have count long values client user ls has m c u t s n =
     by (list_all (row_matches client user ls) must) refl
   where
     reaches : (rows : List AclRow) → list_any has_client_mark rows ≡ true
@@ -171,15 +173,18 @@ no_long_ids start of users must cover marked count long values client user ls ha
     by : (a : Bool) → list_all (row_matches client user ls) must ≡ a
         → row_hits client user ls must cover ≡ false
     by false e = (λ i. e i && not (list_any (row_matches client user ls) cover))
-    by true e = absurd (let k = reaches must marked m e in omega (arith, k, n, long))
+    by true e = absurd (let k = reaches must marked m e in let few = have client user ls n e in
+        omega (arith, k, few, long))
 
 pub no_long_users : (start : Start) (count : ℕ) (users : List (Bor (List ℕ)))
-    (must cover : List AclRow) → list_any has_user_mark must ≡ true → (most : ℕ) → 200 < most
+    (must cover : List AclRow) → list_any has_user_mark must ≡ true → (limit : ℕ)
+    → HaveAtMost must limit → (most : ℕ) → limit < most
     → FindsNone start (with_levels count (Levels most)) users must cover
-no_long_users start count users must cover marked most long values client None ls has m c u t s n =
+no_long_users start count users must cover marked limit have most long values client None ls has m
+    c u t s n =
     absurd has.user_is
-no_long_users start count users must cover marked most long values client (Some user) ls has m c u t
-    s n =
+no_long_users start count users must cover marked limit have most long values client (Some user) ls
+    has m c u t s n =
     by (list_all (row_matches client (Some user) ls) must) refl
   where
     reaches : (rows : List AclRow) → list_any has_user_mark rows ≡ true
@@ -205,4 +210,5 @@ no_long_users start count users must cover marked most long values client (Some 
     by : (a : Bool) → list_all (row_matches client (Some user) ls) must ≡ a
         → row_hits client (Some user) ls must cover ≡ false
     by false e = (λ i. e i && not (list_any (row_matches client (Some user) ls) cover))
-    by true e = absurd (let k = reaches must marked m e in omega (arith, k, n, long))
+    by true e = absurd (let k = reaches must marked m e in
+        let few = have client (Some user) ls n e in omega (arith, k, few, long))

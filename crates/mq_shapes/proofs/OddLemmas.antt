@@ -1,6 +1,6 @@
 -- What concerns a client with a wildcard in its id or user name.
-use Rattle.std.proofs.Common.{◌≡◌, ◌∙◌, ◌&&◌, ◌||◌, ◌∷◌, ℕ, Bool, true, false, not, List, []}
-use Rattle.std.proofs.Common.{Bor, Option, Some, None, ap, arith, bytes_eq, codes, refl, sym}
+use Rattle.std.proofs.Common.{◌≡◌, ◌∙◌, ◌&&◌, ◌||◌, ◌∷◌, ◌++◌, ℕ, Bool, true, false, not, List, []}
+use Rattle.std.proofs.Common.{Bor, Option, Some, None, ap, arith, bytes_eq, codes, map, refl, sym}
 use Rattle.std.specs.List.{filter, list_all, list_any}
 use Rattle.std.specs.Option.{unwrap_or}
 use Rattle.std.proofs.Math.Bool.{and-false}
@@ -19,25 +19,30 @@ use Rattle.mq_cover.specs.declared.start.Start.{Start}
 use Rattle.mq_unify.specs.Clients.{made_levels}
 use Rattle.mq_cover.specs.Choices.{other_at}
 use Rattle.mq_cover.specs.declared.others.Others.{Others}
-use Rattle.mq_unify.specs.Rows.{row_matches}
+use Rattle.mq_cover.specs.Remainders.{fits}
+use Rattle.mq_unify.specs.Rows.{row_matches, rows_fit}
 use Rattle.mq_unify.specs.Unlike.{is_unlike}
 use Rattle.mq_unify.proofs.FilterLemmas.{single}
 use Rattle.mq_unify.proofs.UnlikeLemmas.{itself_is}
 use Rattle.std.proofs.Common.{true≢false}
 use Rattle.mq_topic.specs.Matching.{level_matches, levels_match_by}
 use Rattle.mq_shapes.specs.Filled.{row_levels}
-use Rattle.mq_shapes.specs.Found.{AreAllReady, HasNone, IsTopic, has_name, is_listed, row_hits}
+use Rattle.mq_shapes.specs.Found.{AreAllReady, HasNone, IsTopic, all_fit, has_name, is_listed}
+use Rattle.mq_shapes.specs.Found.{row_hits}
 use Rattle.mq_shapes.specs.Odd.{IsOdd, IsOddUser, OddNone, is_among, is_odd, is_own_kept}
+use Rattle.mq_shapes.specs.Odd.{is_own_of}
 use Rattle.mq_shapes.specs.Ruled.{all_listed, concerns, has_dollar, hides, is_front, names_listed}
-use Rattle.mq_shapes.specs.Ruled.{ruled_hits}
+use Rattle.mq_shapes.specs.Ruled.{AreElsewhere, are_literal, matched_by, ruled_hits}
 use Rattle.mq_shapes.specs.declared.clients.Clients.{Clients}
 use Rattle.mq_shapes.specs.declared.clients.Clients.TheVariants as clients
 use Rattle.mq_shapes.proofs.ConcernLemmas.{other_applies, three}
-use Rattle.mq_shapes.proofs.FilledLemmas.{plain_levels}
+use Rattle.mq_shapes.proofs.FilledLemmas.{plain_levels, single_levels}
 use Rattle.mq_shapes.proofs.HiddenLemmas.{first_begins, front}
 use Rattle.mq_shapes.proofs.KeptLemmas.{suits_dollar}
 use Rattle.mq_shapes.proofs.RuledLemmas.{covers_is, hidden_is}
 use Rattle.mq_shapes.proofs.ShapeLemmas.{prefix_is}
+use Rattle.mq_shapes.proofs.WithinLemmas.{hits_within}
+use Rattle.std.proofs.lemmas.List.Folds.{list_all-append}
 
 -- no `pattern` row is asked
 unasked : (client : List ℕ) (user : Option (List ℕ)) (text : List ℕ)
@@ -181,36 +186,91 @@ module _ (start : Start) (users : List (Bor (List ℕ))) (k : Clients) (client n
       (not (list_any matched (filter (is_own_kept start k) cover))))
 
 -- ---- what the search finds
-module _ (start : Start) (users : List (Bor (List ℕ))) (k : Clients) (must cover : List AclRow)
-    (f : is_front start ≡ true) (ml : all_listed users must ≡ true)
+module _ (start : Start) (users : List (Bor (List ℕ))) (k : Clients)
+    (within must cover : List AclRow) (f : is_front start ≡ true)
+    (lit : are_literal within ≡ true) (ml : all_listed users must ≡ true)
     (cl : all_listed users cover ≡ true) where
-  pub odd_kept : list_all (is_own_kept start k) must ≡ false → OddNone start users k must cover
-  odd_kept h client user name odd among s few =
+  pub odd_kept : list_all (is_own_kept start k) must ≡ false → OddNone start users k within must cover
+  odd_kept h client user name odd among s few w =
       odd_is start users k client name user odd among (suits_dollar start name f s) must cover ml cl
       ∙ ap (λ b. b && row_hits [] None (levels name) must (filter (is_own_kept start k) cover)) h
 
-  pub odd_none : HasNone start must (filter (is_own_kept start k) cover) [] None
-      → OddNone start users k must cover
-  odd_none h client user name odd among s few =
+  pub odd_none : HasNone start (within ++ must) (filter (is_own_kept start k) cover) [] None
+      → OddNone start users k within must cover
+  odd_none h client user name odd among s few w =
       odd_is start users k client name user odd among (suits_dollar start name f s) must cover ml cl
-      ∙ ap (λ b. list_all (is_own_kept start k) must && b) (h (levels name) s few)
+      ∙ ap (λ b. list_all (is_own_kept start k) must && b)
+      (sym (hits_within [] None (levels name) within must (filter (is_own_kept start k) cover) lit
+      ∙ ap (λ b. b && row_hits [] None (levels name) must (filter (is_own_kept start k) cover)) w)
+      ∙ h (levels name) s few)
       ∙ and-false (list_all (is_own_kept start k) must)
 
-  pub odd_found : list_all (is_own_kept start k) must ≡ true → (client topic : List ℕ)
-      (user : Option (List ℕ)) → is_odd client user ≡ true → is_among users k user ≡ true
-      → IsTopic start must (filter (is_own_kept start k) cover) [] None topic
-      → IsOdd start users k must cover client user topic
-  odd_found h client topic user odd among is = record {
-    odd = odd;
-    among = among;
-    suitable = is.suitable;
-    few = is.few;
-    valid = is.valid;
-    hit = odd_is start users k client topic user odd among
-        (suits_dollar start topic f is.suitable) must cover ml cl
-        ∙ and_from (list_all (is_own_kept start k) must)
-        (row_hits [] None (levels topic) must (filter (is_own_kept start k) cover)) h is.hit;
-  }
+  pub odd_elsewhere : AreElsewhere start (within ++ must) → OddNone start users k within must cover
+  odd_elsewhere h = odd_none (λ ls s few. ap
+      (λ b. b && not (list_any (row_matches [] None ls) (filter (is_own_kept start k) cover)))
+      (h [] None ls s))
+
+  pub odd_found : (others : Others) → list_all (is_own_kept start k) must ≡ true
+      → (client topic : List ℕ) (user : Option (List ℕ)) → client ≡ codes "+"
+      → IsOddUser k (other_at start others) user → is_among users k user ≡ true
+      → IsTopic start (within ++ must) (filter (is_own_kept start k) cover) [] None topic
+      → IsOdd others start users k within must cover client user topic
+  odd_found others h client topic user e shown among is =
+      let odd = ap (λ t. is_odd t user) e in
+      let hits = and_parts (matched_by within (levels topic))
+      (row_hits [] None (levels topic) must (filter (is_own_kept start k) cover))
+      (sym (hits_within [] None (levels topic) within must (filter (is_own_kept start k) cover) lit)
+      ∙ is.hit) in
+      record {
+        client_is = e;
+        user_is = shown;
+        odd = odd;
+        among = among;
+        suitable = is.suitable;
+        few = is.few;
+        valid = is.valid;
+        inside = hits.0;
+        hit = odd_is start users k client topic user odd among
+            (suits_dollar start topic f is.suitable) must cover ml cl
+            ∙ and_from (list_all (is_own_kept start k) must)
+            (row_hits [] None (levels topic) must (filter (is_own_kept start k) cover)) h hits.1;
+      }
+
+  -- rows that are asked as they are written
+  written_fit : (p : List ℕ → Bool) (rows : List AclRow) → are_literal rows ≡ true
+      → rows_fit p rows ≡ true → all_fit p (map (row_levels [] []) rows) ≡ true
+  written_fit p [] own fit = refl
+  written_fit p (row ∷ rows) own fit =
+      let literal = and_parts (not (is_everyones row.who)) (are_literal rows) own in
+      let fits_too = and_parts (fits p (levels row.filter)) (rows_fit p rows) fit in
+      let here = ap (λ b. fits p (made_levels b [] [] (levels row.filter)))
+      (not-true (is_everyones row.who) literal.0)
+      ∙ ap (fits p) (sym (single_levels (levels row.filter))) ∙ fits_too.0 in
+      and_from (fits p (row_levels [] [] row)) (all_fit p (map (row_levels [] []) rows)) here
+      (written_fit p rows literal.1 fits_too.1)
+
+  own_literal : (rows : List AclRow) → list_all (is_own_kept start k) rows ≡ true
+      → are_literal rows ≡ true
+  own_literal [] own = refl
+  own_literal (row ∷ rows) own =
+      let owns = and_parts (is_own_kept start k row) (list_all (is_own_kept start k) rows) own in
+      and_from (not (is_everyones row.who)) (are_literal rows)
+      (of_row k (and_parts (is_own_of k row) (not (has_dollar start && hides row)) owns.0).0)
+      (own_literal rows owns.1)
+    where
+      of_row : (k : Clients) → is_own_of k row ≡ true → not (is_everyones row.who) ≡ true
+      of_row clients.Anonymous h =
+          (and_parts (applies None row.who) (not (is_everyones row.who)) h).1
+      of_row (clients.Named name) h =
+          (and_parts (applies (Some name.now) row.who) (not (is_everyones row.who)) h).1
+      of_row clients.Others h = absurd (let n : false ≡ true = h in cc)
+
+  pub own_fit : (p : List ℕ → Bool) → list_all (is_own_kept start k) must ≡ true
+      → rows_fit p (within ++ must) ≡ true
+      → all_fit p (map (row_levels [] []) (within ++ must)) ≡ true
+  own_fit p own fit = written_fit p (within ++ must)
+      (list_all-append (λ row. not (is_everyones row.who)) within must
+      ∙ and_from (are_literal within) (are_literal must) lit (own_literal must own)) fit
 
 -- ---- the user name that is shown
 -- what stands for others isn't listed

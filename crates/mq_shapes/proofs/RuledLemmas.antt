@@ -23,7 +23,7 @@ module _ (client : List ℕ) (user : Option (List ℕ)) where
   abbrev text : List ℕ
   text = unwrap_or user []
 
-  filter_levels : (row : AclRow)
+  pub filter_levels : (row : AclRow)
       → levels (filter_for client user row) ≡ row_levels client text row
   filter_levels row = by (is_everyones row.who) refl
     where

@@ -122,7 +122,7 @@ onto_lacks : (b x : ℕ) (ls : List (List ℕ))
 onto_lacks b x [] n h = absurd (omega arith)
 onto_lacks b x (l ∷ ls) n h = grind (arith, or_parts)
 
-lacks : (b : ℕ) (text : List ℕ) → (47 == b) ≡ false
+pub lacks : (b : ℕ) (text : List ℕ) → (47 == b) ≡ false
     → list_all (λ l. not (contains_byte b l)) (levels text) ≡ true → contains_byte b text ≡ false
 lacks b [] n h = refl
 lacks b (x ∷ xs) n h = by (lacks b xs n) (is_slash x) refl
@@ -222,7 +222,7 @@ module _ (shape : ClientShape) (values : ℕ → List ℕ) (client : List ℕ)
   )
 
 -- ---- user names that are listed
-levels_apart : (a b : List ℕ) → levels a ≡ levels b → a ≡ b
+pub levels_apart : (a b : List ℕ) → levels a ≡ levels b → a ≡ b
 levels_apart a b e =
     sym (join_with_byte-slice_split 47 a) ∙ ap (join_with_byte 47) e
     ∙ join_with_byte-slice_split 47 b

@@ -1,5 +1,5 @@
 -- Every client has a shape.
-use Rattle.std.proofs.Common.{◌≡◌, ◌∙◌, ◌&&◌, ◌||◌, ◌+◌, ℕ, true, false, not, List, []}
+use Rattle.std.proofs.Common.{◌≡◌, ◌≤◌, ◌∙◌, ◌&&◌, ◌||◌, ◌+◌, ℕ, true, false, not, List, []}
 use Rattle.std.proofs.Common.{◌∷◌, Bor, Option, Some, None, ap, arith, bytes_eq, codes, get_or, length, refl, suc}
 use Rattle.std.proofs.Common.{IfNone, IfSome, sym, zero}
 use Rattle.std.specs.List.{list_all, list_any}
@@ -13,6 +13,7 @@ use Rattle.mq_acl.specs.RowsByOwner.{is_everyones}
 use Rattle.mq_cover.specs.Names.{can_be_level}
 use Rattle.mq_cover.specs.declared.start.Start.{Start}
 use Rattle.mq_unify.specs.Clients.{HasShape, mark_plain, values_from}
+use Rattle.mq_unify.proofs.JoinLemmas.{length-values}
 use Rattle.mq_unify.specs.Rows.{AllMade}
 use Rattle.mq_unify.specs.declared.shape.UserShape.{UserShape}
 use Rattle.mq_unify.specs.declared.shape.UserShape.TheVariants.{Absent, Known, Levels}
@@ -67,7 +68,7 @@ client_is client user =
     sym (first_values (levels client) (levels user) 0 (texts client user)
     (λ n. ap (texts client user) (omega arith)))
 
-text_shape : (client user : List ℕ)
+pub text_shape : (client user : List ℕ)
     → HasShape (with_levels (length (levels client)) (Levels (length (levels user))))
     (texts client user) client (Some user)
 text_shape client user = record {
@@ -77,12 +78,12 @@ text_shape client user = record {
       ∙ ap (λ n. values_from (texts client user) n (length (levels user))) (omega arith);
 }
 
-named_shape : (client : List ℕ) (name : Bor (List ℕ))
+pub named_shape : (client : List ℕ) (name : Bor (List ℕ))
     → HasShape (with_levels (length (levels client)) (Known name)) (texts client []) client
     (Some name.now)
 named_shape client name = record { client_is = client_is client []; user_is = refl }
 
-bare_shape : (client : List ℕ)
+pub bare_shape : (client : List ℕ)
     → HasShape (with_levels (length (levels client)) Absent) (texts client []) client None
 bare_shape client = record { client_is = client_is client []; user_is = refl }
 
@@ -164,16 +165,22 @@ module _ (start : Start) (users : List (Bor (List ℕ))) (must cover : List AclR
 -- ---- what is found
 module _ (start : Start) (users : List (Bor (List ℕ))) (must cover : List AclRow)
     (client : List ℕ) (user : Option (List ℕ)) (topic : List ℕ) where
-  pub found_of_others : (most : ℕ) → IsFoundWith start (Levels most) users must cover client user
-      topic
+  client_count : {of : UserShape} (found : IsFoundWith start of users must cover client user topic)
+      → length (levels client) ≤ 200
+  client_count found =
+      let long = ap length found.is.shaped.client_is ∙ length-values found.is.values 0 found.count in
+      let few = found.few in omega (arith, long, few)
+
+  pub found_of_others : (most : ℕ) → most ≤ 200
+      → IsFoundWith start (Levels most) users must cover client user topic
       → IsOfOthers start users must cover client user topic
-  found_of_others most found = by user found
+  found_of_others most low found = by user found (client_count found)
     where
       by : (user : Option (List ℕ))
           → IsFoundWith start (Levels most) users must cover client user topic
-          → IsOfOthers start users must cover client user topic
-      by None found = absurd found.is.shaped.user_is
-      by (Some name) found = record {
+          → length (levels client) ≤ 200 → IsOfOthers start users must cover client user topic
+      by None found few = absurd found.is.shaped.user_is
+      by (Some name) found few = record {
         name = name;
         user_is = refl;
         client_plain = plain_client (with_levels found.count (Levels most)) found.is.values client
@@ -182,6 +189,10 @@ module _ (start : Start) (users : List (Bor (List ℕ))) (must cover : List AclR
             ∙ values_fit found.is.values found.is.fit found.count most);
         unlisted = found.is.unlisted;
         texts = found.is.texts;
+        client_few = few;
+        user_few =
+            let long = ap length found.is.shaped.user_is ∙ length-values found.is.values found.count most in
+            omega (arith, long, low);
         is = found.is.is;
       }
 
@@ -193,6 +204,7 @@ module _ (start : Start) (users : List (Bor (List ℕ))) (must cover : List AclR
     client_plain = plain_client (with_levels found.count (Known name)) found.is.values client user
         found.is.shaped found.is.fit;
     texts = found.is.texts;
+    client_few = client_count found;
     is = found.is.is;
   }
 
@@ -203,6 +215,7 @@ module _ (start : Start) (users : List (Bor (List ℕ))) (must cover : List AclR
     client_plain = plain_client (with_levels found.count Absent) found.is.values client user
         found.is.shaped found.is.fit;
     texts = found.is.texts;
+    client_few = client_count found;
     is = found.is.is;
   }
 

@@ -1,5 +1,5 @@
 -- Topics of clients whose texts have any number of levels.
-use Rattle.std.specs.Prelude.{◌≡◌, ◌<◌, ◌&&◌, ℕ, Bool, true, false, List, Option, Some, None, codes}
+use Rattle.std.specs.Prelude.{◌≡◌, ◌≤◌, ◌<◌, ◌&&◌, length, ℕ, Bool, true, false, List, Option, Some, None, codes}
 use denote.Ref.{Bor}
 use Rattle.std.specs.List.{list_any}
 use Rattle.std.specs.Str.{bytes_eq}
@@ -66,9 +66,10 @@ pub record IsFoundWith (start : Start) (user : UserShape) (users : List (Bor (Li
     (must cover : List AclRow) (client : List ℕ) (name : Option (List ℕ)) (topic : List ℕ) : Type 0
   where
     pub count : ℕ
+    pub few : count ≤ 200
     pub is : IsFound start (with_levels count user) users must cover client name topic
 
--- its id has no wildcards, nor has its user name, which isn't listed
+-- its id has no wildcards, nor has its user name, which isn't listed; both have at most 200 levels
 pub record IsOfOthers (start : Start) (users : List (Bor (List ℕ))) (must cover : List AclRow)
     (client : List ℕ) (user : Option (List ℕ)) (topic : List ℕ) : Type 0 where
   pub name : List ℕ
@@ -77,6 +78,8 @@ pub record IsOfOthers (start : Start) (users : List (Bor (List ℕ))) (must cove
   pub user_plain : is_plain name ≡ true
   pub unlisted : is_listed users (Some name) ≡ false
   pub texts : has_texts client user ≡ true
+  pub client_few : length (levels client) ≤ 200
+  pub user_few : length (levels name) ≤ 200
   pub is : IsTopic start must cover client user topic
 
 -- it has this user name, or none
@@ -85,4 +88,5 @@ pub record IsOfUser (start : Start) (user : Option (List ℕ)) (must cover : Lis
   pub user_is : name ≡ user
   pub client_plain : is_plain client ≡ true
   pub texts : has_texts client name ≡ true
+  pub client_few : length (levels client) ≤ 200
   pub is : IsTopic start must cover client name topic

@@ -1,6 +1,11 @@
 pub mod Filled
 pub mod Found
 pub mod Every
+pub mod Covered
+pub mod Few
+pub mod Total
+pub mod Passed
 pub mod Prefix
 pub mod Ruled
 pub mod Odd
+pub mod Swaps

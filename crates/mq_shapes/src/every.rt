@@ -1,38 +1,28 @@
 //! The search over clients whose texts have any number of levels.
-ghost use Rattle.std.specs.Prelude.{◌≡◌, ◌&&◌, ◌≤◌, ◌<◌, ℕ, List, IfOk, IfNone, IfSome, codes, if◌then◌else◌, string_bytes};
-ghost use Rattle.std.specs.Prelude.{None, Some, false};
+ghost use Rattle.std.specs.Prelude.{◌≡◌, ◌&&◌, ◌≤◌, ◌<◌, ℕ, List, IfOk, IfNone, IfSome, codes, string_bytes};
+ghost use Rattle.std.specs.Prelude.{[], None, Some, false};
+ghost use Rattle.mq_cover.specs.Choices.{other_at};
 ghost use Rattle.std.specs.List.{list_any};
-ghost use Rattle.std.specs.Str.{bytes_eq};
 ghost use Rattle.mq_topic.specs.Levels.{levels};
-ghost use Rattle.mq_acl.specs.RowsByOwner.{is_everyones};
 ghost use Rattle.mq_acl.specs.Views.{row_view};
 ghost use Rattle.mq_shapes.specs.Every.{FindsNoneWith, HasNoneNamed, HasNoneOfOthers, HasNoneUnnamed};
 ghost use Rattle.mq_shapes.specs.Every.{IsFoundWith, IsOfOthers, IsOfUser, has_mark, has_user_mark};
 ghost use Rattle.mq_shapes.specs.Every.{with_levels};
+ghost use Rattle.mq_shapes.specs.Total.{AreTried};
+ghost use Rattle.mq_shapes.specs.Passed.{Passes, ShapePasses};
 ghost use Rattle.mq_shapes.specs.Found.{AreAllReady, FindsNone, IsFound, IsUserReady, is_listed};
 ghost use Rattle.mq_unify.specs.declared.shape.UserShape.TheVariants.{Known};
 ghost use Rattle.mq_unify.specs.Joined.{user_view};
 ghost use Rattle.mq_unify.specs.Rows.{lent_rows};
 
-use crate::filled::is_pattern;
+use crate::few::few_levels;
+use crate::filled::has_mark;
 use crate::found::{Found, Shaped};
+use crate::total::most_total;
 use mq_acl::Row;
 use mq_cover::{Others, Start};
-use mq_topic::{LevelText, split_first};
 use mq_unify::{ClientShape, UserShape};
 use std::alloc::{AllocError, Global};
-
-fn has_level(text: &str, wanted: &str) -> bool
-    ensures { result ≡ list_any (λ l. bytes_eq l wanted.now) (levels text.now) }
-{
-    text.split('/').any(|level| level == wanted)
-}
-
-pub(crate) fn has_mark(row: &Row, mark: &str) -> bool
-    ensures { result ≡ has_mark mark.now (row_view row.now) }
-{
-    is_pattern(&row.owner) && has_level(row.filter.text(), mark)
-}
 
 fn any_marked(rows: &[&Row], mark: &str) -> bool
     ensures { result ≡ list_any (λ row. has_mark mark.now (row_view row.now)) rows.now }
@@ -47,12 +37,17 @@ fn some_mark(rows: &[&Row], mark: &str) -> bool
     any_marked(rows, mark)
 }
 
-// How many levels the texts that stand for this mark have at most: a topic has at most 200, and where no row has the mark one is
-// as good as more.
+// How many levels the texts that stand for this mark have at most: no more than a topic that all rows cover, and where no row
+// has the mark one is as good as more.
 fn most_levels(rows: &[&Row], mark: &str) -> u8
-    ensures { result ≡ (if list_any (has_mark mark.now) (lent_rows rows.now) then 200 else 1) }
+    ensures few { result ≤ 200 }
+    ensures enough { AreTried mark.now (lent_rows rows.now) result }
 {
-    if some_mark(rows, mark) { 200 } else { 1 }
+    if some_mark(rows, mark) {
+        most_total(rows)
+    } else {
+        1
+    }
 }
 
 /// The topics that are looked for, and the rows that are asked about clients.
@@ -88,6 +83,9 @@ impl<'a> Search<'a> {
             (with_levels levels user.entry) self.now.users.now (lent_rows self.now.must.now)
             (lent_rows self.now.cover.now) (string_bytes found.client) (user_view found.user)
             (string_bytes found.topic))) }
+        ensures pass { IfOk result (λ found. IfSome found (λ found. ShapePasses self.now.others
+            (other_at self.now.start self.now.others) user.entry (lent_rows self.now.must.now)
+            (string_bytes found.client) (user_view found.user) (string_bytes found.topic))) }
     {
         let shaped = Shaped {
             others: self.others,
@@ -100,6 +98,25 @@ impl<'a> Search<'a> {
         shaped.find(alloc)
     }
 
+    // With how many levels of an id it is enough to try.
+    fn most_ids(&self, user: UserShape<'a>) -> u8
+        ensures few { result ≤ 200 }
+        ensures enough { ((count : ℕ) → 0 < count → count ≤ result
+            → FindsNone self.now.start (with_levels count user.entry) self.now.users.now
+            (lent_rows self.now.must.now) (lent_rows self.now.cover.now))
+            → FindsNoneWith self.now.start user.entry self.now.users.now
+            (lent_rows self.now.must.now) (lent_rows self.now.cover.now) }
+    {
+        let most = most_levels(self.must, "%c");
+        if !some_mark(self.must, "%c") {
+            return most;
+        }
+        match few_levels(self.must, self.cover, user) {
+            Some(few) => if few < most { few } else { most },
+            None => most,
+        }
+    }
+
     // Of clients with any id, and with such a user name.
     fn with_user(&self, alloc: Global, user: UserShape<'a>) -> Result<Option<Found>, AllocError>
         requires { IsUserReady self.now.others self.now.start user }
@@ -109,8 +126,11 @@ impl<'a> Search<'a> {
             user.entry self.now.users.now (lent_rows self.now.must.now)
             (lent_rows self.now.cover.now) (string_bytes found.client) (user_view found.user)
             (string_bytes found.topic))) }
+        ensures pass { IfOk result (λ found. IfSome found (λ found. ShapePasses self.now.others
+            (other_at self.now.start self.now.others) user.entry (lent_rows self.now.must.now)
+            (string_bytes found.client) (user_view found.user) (string_bytes found.topic))) }
     {
-        for levels in 0..most_levels(self.must, "%c") {
+        for levels in 0..self.most_ids(user) {
             if let Some(found) = self.with_levels(alloc, levels + 1, user)? {
                 return Ok(Some(found));
             }
@@ -126,6 +146,9 @@ impl<'a> Search<'a> {
             self.now.users.now (lent_rows self.now.must.now) (lent_rows self.now.cover.now))) }
         ensures some { IfOk result (λ found. IfSome found (λ found. IsOfOthers self.now.start
             self.now.users.now (lent_rows self.now.must.now) (lent_rows self.now.cover.now)
+            (string_bytes found.client) (user_view found.user) (string_bytes found.topic))) }
+        ensures pass { IfOk result (λ found. IfSome found (λ found. Passes self.now.others
+            (other_at self.now.start self.now.others) [] (lent_rows self.now.must.now)
             (string_bytes found.client) (user_view found.user) (string_bytes found.topic))) }
     {
         for levels in 0..most_levels(self.must, "%u") {
@@ -145,6 +168,10 @@ impl<'a> Search<'a> {
         ensures some { IfOk result (λ found. IfSome found (λ found. IsOfUser self.now.start
             (Some name.entry.now) (lent_rows self.now.must.now) (lent_rows self.now.cover.now)
             (string_bytes found.client) (user_view found.user) (string_bytes found.topic))) }
+        ensures pass { IfOk result (λ found. IfSome found (λ found. Passes self.now.others
+            (other_at self.now.start self.now.others) (levels name.entry.now)
+            (lent_rows self.now.must.now) (string_bytes found.client) (user_view found.user)
+            (string_bytes found.topic))) }
     {
         self.with_user(alloc, UserShape::Known(name))
     }
@@ -157,6 +184,9 @@ impl<'a> Search<'a> {
             (lent_rows self.now.must.now) (lent_rows self.now.cover.now))) }
         ensures some { IfOk result (λ found. IfSome found (λ found. IsOfUser self.now.start None
             (lent_rows self.now.must.now) (lent_rows self.now.cover.now)
+            (string_bytes found.client) (user_view found.user) (string_bytes found.topic))) }
+        ensures pass { IfOk result (λ found. IfSome found (λ found. Passes self.now.others
+            (other_at self.now.start self.now.others) [] (lent_rows self.now.must.now)
             (string_bytes found.client) (user_view found.user) (string_bytes found.topic))) }
     {
         self.with_user(alloc, UserShape::Absent)

@@ -1,9 +1,12 @@
 //! The filters of rows with the texts of a client in the place of their marks.
 ghost use Rattle.std.specs.Prelude.{◌≡◌, ◌≤◌, ◌++◌, ◌∷◌, ℕ, List, length, Option, IfOk, map, string_bytes};
+ghost use Rattle.std.specs.List.{list_any};
+ghost use Rattle.std.specs.Str.{bytes_eq};
 ghost use Rattle.mq_topic.specs.Levels.{levels};
 ghost use Rattle.mq_acl.specs.Filled.{filled};
 ghost use Rattle.mq_acl.specs.RowsByOwner.{is_everyones};
 ghost use Rattle.mq_acl.specs.Views.{owner_view, row_view};
+ghost use Rattle.mq_shapes.specs.Every.{has_mark};
 ghost use Rattle.mq_shapes.specs.Filled.{left_filled, length_left, row_levels, text_levels};
 ghost use Rattle.mq_unify.specs.Rows.{lent_rows};
 
@@ -62,6 +65,20 @@ pub(crate) fn is_pattern(owner: &Owner) -> bool
     ensures { result ≡ is_everyones (owner_view owner.now) }
 {
     matches!(owner, Owner::Everyone)
+}
+
+/// Whether a level of the text is this one.
+pub(crate) fn has_level(text: &str, wanted: &str) -> bool
+    ensures { result ≡ list_any (λ l. bytes_eq l wanted.now) (levels text.now) }
+{
+    text.split('/').any(|level| level == wanted)
+}
+
+/// Whether it is a `pattern` row with this mark as a level.
+pub(crate) fn has_mark(row: &Row, mark: &str) -> bool
+    ensures { result ≡ has_mark mark.now (row_view row.now) }
+{
+    is_pattern(&row.owner) && has_level(row.filter.text(), mark)
 }
 
 // The filter of the row for a client with these names.

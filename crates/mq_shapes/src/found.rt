@@ -12,6 +12,7 @@ ghost use Rattle.mq_shapes.specs.Filled.{text_levels};
 ghost use Rattle.mq_shapes.specs.Found.{AreLeft, FindsNone, HasNone, IsFound, IsMatched, IsReady, IsTopic};
 ghost use Rattle.mq_shapes.specs.Found.{MatchesNone, all_fit, has_name, has_texts, is_empty_name};
 ghost use Rattle.mq_shapes.specs.Found.{is_listed};
+ghost use Rattle.mq_shapes.specs.Passed.{ClientTopicPasses, ShapePasses, TopicPasses};
 ghost use Rattle.mq_unify.specs.Clients.{user_passes};
 ghost use Rattle.mq_unify.specs.Joined.{join_levels, user_view};
 ghost use Rattle.mq_unify.specs.Rows.{lent_rows};
@@ -100,6 +101,8 @@ impl Texts {
         ensures some { IfOk result (λ topic. IfSome topic (λ topic. IsMatched start
             (text_levels self.now.must.items) (text_levels self.now.cover.items)
             (string_bytes topic))) }
+        ensures pass { IfOk result (λ topic. IfSome topic (λ topic. TopicPasses others.entry
+            (text_levels self.now.must.items) (string_bytes topic))) }
     {
         let must = whole(alloc, &self.must)?;
         let cover = whole(alloc, &self.cover)?;
@@ -185,6 +188,9 @@ impl<'a> Shaped<'a> {
             (lent_rows self.now.must.now) (lent_rows self.now.cover.now)
             (string_bytes general.now.client) (user_view general.now.user)
             (string_bytes topic))) }
+        ensures pass { IfOk result (λ topic. IfSome topic (λ topic. ClientTopicPasses
+            self.now.others (lent_rows self.now.must.now) (string_bytes general.now.client)
+            (user_view general.now.user) (string_bytes topic))) }
     {
         let names = names_of(general);
         let texts = Texts {
@@ -203,6 +209,10 @@ impl<'a> Shaped<'a> {
         ensures some { IfOk result (λ found. IfSome found (λ found. IsFound self.now.start
             self.now.shape self.now.users.now (lent_rows self.now.must.now)
             (lent_rows self.now.cover.now) (string_bytes found.client) (user_view found.user)
+            (string_bytes found.topic))) }
+        ensures pass { IfOk result (λ found. IfSome found (λ found. ShapePasses self.now.others
+            (other_at self.now.start self.now.others) self.now.shape.user
+            (lent_rows self.now.must.now) (string_bytes found.client) (user_view found.user)
             (string_bytes found.topic))) }
     {
         let general = most_general(alloc, self.prefix(), self.shape, self.must)?;

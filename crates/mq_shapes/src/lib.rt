@@ -6,12 +6,15 @@
 #![tactic(auto)]
 
 mod clients;
+mod covered;
 mod every;
+mod few;
 mod filled;
 mod found;
 mod odd;
 mod prefix;
 mod ruled;
+mod total;
 
 pub use clients::Clients;
 pub use every::Search;

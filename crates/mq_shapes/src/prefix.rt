@@ -1,5 +1,5 @@
 //! Texts that no row names: none of its levels begins with them.
-ghost use Rattle.std.specs.Prelude.{◌≡◌, IfOk, nat_eq, string_bytes};
+ghost use Rattle.std.specs.Prelude.{◌≡◌, ◌||◌, IfOk, nat_eq, string_bytes};
 ghost use Rattle.std.specs.List.{list_any, starts_with};
 ghost use Rattle.mq_acl.specs.Views.{owner_view, row_view};
 ghost use Rattle.mq_shapes.specs.Prefix.{ArePrefixes, IsPrefix, all_rows, begins, list_begins};
@@ -84,6 +84,14 @@ impl Prefixes {
             plain: prefix_of(alloc, "x", lists)?,
             dollar: prefix_of(alloc, "$x", lists)?,
         })
+    }
+
+    /// Whether a level begins as those do that stand for others.
+    pub fn begin(&self, level: &str) -> bool
+        ensures { result ≡ (starts_with nat_eq level.now (string_bytes self.now.plain)
+            || starts_with nat_eq level.now (string_bytes self.now.dollar)) }
+    {
+        is_like(self.plain.as_str(), level) || is_like(self.dollar.as_str(), level)
     }
 
     /// As levels: in names that don't begin with `$`, and in those that do.

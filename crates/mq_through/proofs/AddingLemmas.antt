@@ -5,11 +5,8 @@ use Rattle.std.proofs.Common.{subst, All}
 use Rattle.std.proofs.Common.{Option, Some, None, Bor}
 use Rattle.std.specs.List.{list_any}
 use Rattle.std.proofs.lemmas.List.Folds.{list_any-append}
-use Rattle.mq_acl.specs.Rows.{AclRow}
-use Rattle.mq_acl.specs.Views.{row_views}
 use Rattle.mq_acl.specs.declared.row.Row.{Row}
 use Rattle.mq_acl.specs.declared.rules.Rules.TheVariants.{Own}
-use Rattle.mq_witness.specs.Ruled.{are_asked_of}
 use Rattle.mq_differences.specs.Differences as differences
 use Rattle.mq_differences.specs.Differences.{is_change, is_of, same_direction, same_reason}
 use Rattle.mq_differences.specs.Differences.{same_start}
@@ -118,11 +115,5 @@ module _ (plan : List PlanRule) (old new : List Row) (region : Region) (client :
       → ShowsChangesIn plan old new region client after
   adding_all after all every f way q asked c e h =
       f.shown way q asked c e
-      (every way q.direction client q.topic q.user m.client_is.id asked.user
-      (compared (row_views made_old ++ row_views made_new) q.user) asked.topic
+      (every way q.direction client q.topic q.user m.client_is.id asked.user asked.topic
       (changes_made plan old new region client users made_old made_new m way q asked c e h))
-    where
-      compared : (rows : List AclRow) (u : Option (List ℕ))
-          → are_asked_of Own rows client u ≡ true
-      compared rows None = refl
-      compared rows (Some user) = refl

@@ -265,7 +265,7 @@ module _ (plan : List PlanRule) (old new : List Row) (region : Region) (client :
             rule = n.rule ∙ ap (rule_line plan) (sym n.topic);
           };
           marked = λ text. n.marked text
-              ∙ (λ i. is_of text (sym n.client_is i)
+              ∙ (λ i. is_of Own text (sym n.client_is i)
               (sym (ap user_of n.class ∙ class_user users d.class) i) (sym n.topic i)
               && not (is_named_in plan old new text));
         }

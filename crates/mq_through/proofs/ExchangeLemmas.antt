@@ -7,6 +7,7 @@ use Rattle.std.proofs.lemmas.Bool.{and_parts, cond-true, cond_both}
 use Rattle.mq_topic.proofs.ByteLemmas.{text_is, text_itself}
 use Rattle.mq_acl.specs.Access.{begins_with_dollar, is_user}
 use Rattle.mq_acl.specs.declared.row.Row.{Row}
+use Rattle.mq_acl.specs.declared.rules.Rules.TheVariants.{Own}
 use Rattle.mq_cover.specs.Names.{can_be_level}
 use Rattle.mq_plan.specs.declared.rule.PlanRule.{PlanRule}
 use Rattle.mq_regions.specs.Regions.{is_mark}
@@ -123,10 +124,10 @@ module _ (k : Comparison) (is : IsComparison k) (r : Renamed)
   unnamed t e = ap (λ n. n && not (is_mark t)) e
 
   -- a placeholder is named by nothing
-  marked : (t : List ℕ) (p n : Bool) → p ≡ (is_of t (string_bytes r.difference.client)
+  marked : (t : List ℕ) (p n : Bool) → p ≡ (is_of Own t (string_bytes r.difference.client)
       (user_of r.difference.class) r.difference.topic && not n) → p ≡ true → n ≡ false
   marked t p true e h =
-      let both = and_parts (is_of t (string_bytes r.difference.client)
+      let both = and_parts (is_of Own t (string_bytes r.difference.client)
       (user_of r.difference.class) r.difference.topic) false (sym e ∙ h) in
       absurd (let z : false ≡ true = both.1 in cc)
   marked t p false e h = refl

@@ -9,6 +9,7 @@ use Rattle.mq_acl.specs.Rows.{Named, AclRow}
 use Rattle.mq_acl.specs.Views.{row_views}
 use Rattle.mq_acl.specs.declared.access.Direction.{Direction}
 use Rattle.mq_acl.specs.declared.row.Row.{Row}
+use Rattle.mq_acl.specs.declared.rules.Rules.TheVariants.{Own}
 use Rattle.mq_rename.specs.Lists.{is_long}
 use Rattle.mq_witness.specs.Clients.{can_be_id}
 use Rattle.mq_witness.specs.Literals.{is_among}
@@ -118,7 +119,7 @@ pub record IsRenamed (plan : List PlanRule) (old new : List Row) (client : List 
   pub named : new_name plan d.topic ≡ Some r.new_topic
   pub rule : r.rule ≡ rule_line plan d.topic
   pub marked : (text : List ℕ) → has_text r.difference.placeholders.items text
-      ≡ (is_of text client (user_of d.class) d.topic
+      ≡ (is_of Own text client (user_of d.class) d.topic
       && not (is_named_in plan old new text))
 
 -- a topic without a new name has a rule

@@ -117,7 +117,7 @@ question_of r = record {
 -- list and no rule names
 abbrev pub IsMarked : List PlanRule → (old new : List Row) → Renamed → Type 0
 IsMarked plan old new r = (text : List ℕ) → has_text r.difference.placeholders.items text
-    ≡ (is_of text (string_bytes r.difference.client) (user_of r.difference.class)
+    ≡ (is_of Own text (string_bytes r.difference.client) (user_of r.difference.class)
     r.difference.topic && not (is_named_in plan old new text))
 
 -- it is so of this question: a broker can have it, it is of the class, it changes that way, and

@@ -6,7 +6,7 @@ mod publishes;
 mod reading;
 mod traffic;
 
-pub use pattern::TopicPattern;
+pub use pattern::{Marks, TopicPattern};
 pub use publishes::Publishes;
 pub use reading::{TrafficFault, read_traffic};
 pub use traffic::Traffic;

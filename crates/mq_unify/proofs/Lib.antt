@@ -4,6 +4,7 @@ pub mod UnlikeLemmas
 pub mod MostGeneral
 pub mod UnifyLemmas
 pub mod TermLemmas
+pub mod LengthLemmas
 pub mod MadeLemmas
 pub mod FilterLemmas
 pub mod RowLemmas

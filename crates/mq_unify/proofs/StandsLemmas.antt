@@ -17,6 +17,7 @@ use Rattle.mq_unify.specs.Clients.{HasShape, HasUser, user_fits, user_passes, us
 use Rattle.mq_unify.specs.Clients.{values_from}
 use Rattle.mq_unify.specs.General.{AreAlike, IsMostGeneral, IsSound, StandsFor, is_sound}
 use Rattle.mq_unify.specs.Joined.{HasLevels, IsUserOf, join_levels, user_made}
+use Rattle.mq_unify.specs.Lengths.{AreApart}
 use Rattle.mq_unify.specs.Rows.{AllMade, all_matched, row_matches, rows_fit}
 use Rattle.mq_unify.specs.Terms.{Shape, agree_all, agree_with, all_agree, all_fit, goes_by, matched}
 use Rattle.mq_unify.specs.Terms.{may_follow, shape_of, term_fits, terms_fit}
@@ -238,6 +239,19 @@ pub record AreTerms (shape : ClientShape) (must : List AclRow) (terms : List Ter
 pub lent_terms : (shape : ClientShape) (must : List AclRow) (terms lent : List Terms)
     → lent ≡ terms → AreTerms shape must terms → AreTerms shape must lent
 lent_terms shape must terms lent e are = subst (AreTerms shape must) (sym e) are
+
+-- where one demands more levels than another leaves, no name is matched by all rows
+pub none_apart : (shape : ClientShape) (must : List AclRow) (terms : List Terms)
+    → AreTerms shape must terms → AreApart terms terms
+    → (values : ℕ → List ℕ) (client : List ℕ) (user : Option (List ℕ)) (ls : List (List ℕ))
+    → AllMade shape values client user must
+    → list_all (row_matches client user ls) must ≡ false
+none_apart shape must terms are apart values client user ls made =
+    sym (are.matched values client user ls made) ∙ by (all_matched values ls terms) refl
+  where
+    by : (b : Bool) → all_matched values ls terms ≡ b → all_matched values ls terms ≡ false
+    by false e = e
+    by true e = apart values ls e
 
 module _ (shape : ClientShape) (must : List AclRow) (terms : List Terms)
     (are : AreTerms shape must terms) (first : List Binding) (none : first ≡ []) where

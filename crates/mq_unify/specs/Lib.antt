@@ -1,4 +1,5 @@
 pub mod Terms
+pub mod Lengths
 pub mod Unlike
 pub mod Bindings
 pub mod Unifying

@@ -10,6 +10,7 @@ ghost use Rattle.mq_unify.specs.Unlike.{FreshPass, fresh_text};
 ghost use Rattle.std.specs.List.{list_all};
 
 use crate::binding::{Bindings, Level};
+use crate::lengths::are_apart;
 use crate::rows::rows_terms;
 use crate::shape::{ClientShape, UserShape};
 use crate::unify::unify_all;
@@ -134,6 +135,9 @@ pub fn most_general<'a>(
     let terms = rows_terms(alloc, shape, must)?;
     let mut bindings = Bindings::new(alloc);
     let all = terms.as_slice();
+    if are_apart(all, all) {
+        return Ok(None);
+    }
     if !unify_all(&mut bindings, all, all)? {
         return Ok(None);
     }

@@ -7,6 +7,7 @@
 
 mod binding;
 mod general;
+mod lengths;
 mod rows;
 mod shape;
 mod term;

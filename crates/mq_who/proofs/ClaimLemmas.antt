@@ -31,12 +31,12 @@ use Rattle.mq_expect.specs.Expectations.{Claim, Whom, Anyone, Anonymous, Others,
 use Rattle.mq_expect.specs.Views.{whom_view}
 use Rattle.mq_expect.specs.declared.expectation.Holds.TheVariants as holds
 use Rattle.mq_expect.specs.declared.expectation.Whom.{Whom as Named}
-use Rattle.mq_who.specs.Claims.{IsAsked, IsBroken, IsKept, IsMissing, IsNone, IsOne}
+use Rattle.mq_who.specs.Claims.{IsBroken, IsJudgement, IsKept, IsMissing, IsNone, IsOne, TakesAll}
 use Rattle.mq_who.specs.declared.judge.Judgement.{Judgement}
 use Rattle.mq_who.specs.declared.judge.Judgement.TheVariants as judged
 use Rattle.mq_who.specs.Claims.{AllowsNone, AllowsOne, AreOthers, IsAgainst, KeepsTo, has_class}
-use Rattle.mq_who.specs.Claims.{is_asked_about, is_claimed, is_known, is_meant, is_meant_in, is_one}
-use Rattle.mq_who.specs.Who.{IsListing, IsReal, are_asked, is_asked, is_case, is_listed_in}
+use Rattle.mq_who.specs.Claims.{is_claimed, is_known, is_meant, is_meant_in, is_one}
+use Rattle.mq_who.specs.Who.{IsListing, IsReal, is_asked, is_case, is_left_out, is_listed_in}
 use Rattle.mq_who.specs.Who.{is_member}
 use Rattle.mq_who.proofs.ExtentLemmas.{any_weaker, direction_is, direction_itself, open_if}
 
@@ -161,14 +161,15 @@ meant_claimed : (rules : Rules) (allows : Bool) (rows : List Row) (claim : Claim
 meant_claimed rules allows rows claim others d o r m =
     claimed_is rows claim others (user_of d.class) d.class d.direction o r.member ∙ m
 
--- where none of those of a direction is meant, the list allows none of it, or all that the broker doesn't
--- refuse by itself
+-- where none of those of a direction is meant, the list allows none of it, or all that the broker
+-- doesn't refuse by itself
 none_meant : (rules : Rules) (allows : Bool) (rows : List Row) (claim : Claim)
     (others : List Named) (all : List Difference) (direction : Direction)
     → AreOthers rows claim others → IsListing rules allows rows claim.topics all
     → list_any (is_meant_in claim others direction) all ≡ false
     → (client topic : List ℕ) (user : Option (List ℕ)) → can_be_id client ≡ true
-    → can_be_user user ≡ true → are_asked rules client user ≡ true → is_name topic ≡ true
+    → can_be_user user ≡ true
+    → (not allows && is_left_out rules (row_views rows) client user) ≡ false → is_name topic ≡ true
     → (not allows && refuses rules direction topic) ≡ false
     → is_claimed (row_views rows) claim user direction ≡ true
     → is_asked rules claim.topics client user topic ≡ true
@@ -262,9 +263,9 @@ missed rules rows claim others all direction o l e =
     let parts = and_parts (grants direction claim.access)
     (not (list_any (is_meant_in claim others direction) all)) e in (
       parts.0,
-      λ client topic user c u q v k a. none_meant rules true rows claim others all direction o l
+      λ client topic user c u v k a. none_meant rules true rows claim others all direction o l
           (not-true (list_any (is_meant_in claim others direction) all) parts.1) client topic user
-          c u q v refl k a,
+          c u refl v refl k a,
     )
 
 -- what a direction misses
@@ -286,40 +287,34 @@ in_each rules rows claim others all o l r w Writing g =
 
 -- ---- the judgement
 pub every_judged : (rules : Rules) (rows : List Row) (claim : Claim) (j : Judgement)
-    → is_asked_about rules claim.whom ≡ true → claim.holds ≡ holds.Every
-    → IsNone rules false rows claim j → IsAsked rules rows claim j
+    → TakesAll rules claim → claim.holds ≡ holds.Every
+    → IsNone rules false rows claim j → IsJudgement rules rows claim j
 every_judged rules rows claim judged.Holds a e n =
     (a, subst (IsKept rules rows claim) (sym e) n)
 every_judged rules rows claim (judged.Fails d) a e n =
     subst (λ h. IsBroken rules rows claim h d) (sym e) n
 every_judged rules rows claim (judged.NoneMay direction) a e n = absurd n
 every_judged rules rows claim (judged.Unnamed user) a e n = absurd n
-every_judged rules rows claim (judged.Unasked user) a e n = absurd n
 every_judged rules rows claim (judged.Refused direction) a e n = absurd n
-every_judged rules rows claim (judged.LeavesOut user) a e n = absurd n
 
 pub never_judged : (rules : Rules) (rows : List Row) (claim : Claim) (j : Judgement)
-    → is_asked_about rules claim.whom ≡ true → claim.holds ≡ holds.Never
-    → IsNone rules true rows claim j → IsAsked rules rows claim j
+    → TakesAll rules claim → claim.holds ≡ holds.Never
+    → IsNone rules true rows claim j → IsJudgement rules rows claim j
 never_judged rules rows claim judged.Holds a e n =
     (a, subst (IsKept rules rows claim) (sym e) n)
 never_judged rules rows claim (judged.Fails d) a e n =
     subst (λ h. IsBroken rules rows claim h d) (sym e) n
 never_judged rules rows claim (judged.NoneMay direction) a e n = absurd n
 never_judged rules rows claim (judged.Unnamed user) a e n = absurd n
-never_judged rules rows claim (judged.Unasked user) a e n = absurd n
 never_judged rules rows claim (judged.Refused direction) a e n = absurd n
-never_judged rules rows claim (judged.LeavesOut user) a e n = absurd n
 
 pub one_judged : (rules : Rules) (rows : List Row) (claim : Claim) (j : Judgement)
-    → is_asked_about rules claim.whom ≡ true → claim.holds ≡ holds.AtLeastOne
-    → IsOne rules rows claim j → IsAsked rules rows claim j
+    → TakesAll rules claim → claim.holds ≡ holds.AtLeastOne
+    → IsOne rules rows claim j → IsJudgement rules rows claim j
 one_judged rules rows claim judged.Holds a e n =
     (a, subst (IsKept rules rows claim) (sym e) n)
 one_judged rules rows claim (judged.Fails d) a e n = absurd n
 one_judged rules rows claim (judged.NoneMay direction) a e n =
     subst (λ h. IsMissing rules rows claim h direction) (sym e) n
 one_judged rules rows claim (judged.Unnamed user) a e n = absurd n
-one_judged rules rows claim (judged.Unasked user) a e n = absurd n
 one_judged rules rows claim (judged.Refused direction) a e n = absurd n
-one_judged rules rows claim (judged.LeavesOut user) a e n = absurd n

@@ -181,8 +181,8 @@ extent_is rules rows wanted class direction granted refused false true g r e f =
 extent_is rules rows wanted class direction granted refused false false g r e f =
     λ client topic user c u k v t m. false_from_ne_true (is_asked rules wanted client user topic)
     (λ a. let q : false ≡ true =
-    sym (none_is rules true rows wanted class direction granted g e client topic user c u k v refl
-    m a)
+    sym (none_is rules true rows wanted class direction granted g e client topic user c u refl v
+    refl m a)
     ∙ none_is rules false rows wanted class direction refused r f client topic user c u k v t m
     a
     in cc)

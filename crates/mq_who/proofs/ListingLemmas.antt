@@ -4,42 +4,43 @@ use Rattle.std.proofs.Common.{◌∷◌, Option, Some, None, All, refl, ap, sym,
 use Rattle.std.proofs.Common.{arith, bytes_eq, string_bytes, get_or}
 use Rattle.std.specs.Prelude.{AllPairs}
 use Rattle.std.specs.List.{filter, list_any}
-use Rattle.std.proofs.lemmas.Bool.{eq-eqb}
+use Rattle.std.proofs.lemmas.Bool.{and_parts, eq-eqb}
 use Rattle.std.proofs.lemmas.List.Elements.{All-cons, All-filter, All-head, All-nil, All-tail}
-use Rattle.std.proofs.lemmas.List.Elements.{Contains-append_left}
 use Rattle.std.proofs.lemmas.List.Kept.{AllPairs-filter}
-use Rattle.mq_acl.specs.Views.{line_views, row_view, row_views}
+use Rattle.mq_acl.specs.AccessLists.{allow_by}
+use Rattle.mq_acl.specs.Refused.{refuses}
+use Rattle.mq_acl.specs.Views.{row_views}
 use Rattle.mq_acl.specs.declared.access.Direction.{Direction}
 use Rattle.mq_acl.specs.declared.row.Row.{Row}
 use Rattle.mq_acl.specs.declared.rules.Rules.{Rules}
-use Rattle.mq_witness.specs.Limits.{has_short_levels}
-use Rattle.mq_witness.specs.Rows.{rows_name}
+use Rattle.mq_acl.specs.declared.rules.Rules.TheVariants.{Own, Mosquitto}
+use Rattle.mq_shapes.specs.Swaps.{swap_levels}
+use Rattle.mq_shapes.specs.Swaps as leveled
+use Rattle.mq_witness.specs.Asked.{AskedRows}
+use Rattle.mq_witness.specs.Roots.{same}
+use Rattle.mq_witness.specs.Ruled.{names_by}
 use Rattle.mq_witness.specs.Swaps.{swap, swap_user, swap_name}
 use Rattle.mq_differences.specs.Classes.{is_in, user_of}
 use Rattle.mq_differences.specs.Differences.{AreUnnamed, IsKnown, IsMarked, ShowsAll, is_shown_of}
 use Rattle.mq_differences.specs.Differences.{same_way}
 use Rattle.mq_differences.specs.Differences.{same_class, same_direction, same_reason, same_start}
 use Rattle.mq_differences.specs.Differences as differences
-use Rattle.mq_differences.specs.Faults.{IsComparisonFault}
 use Rattle.mq_differences.specs.Reasons.{reason_of}
 use Rattle.mq_differences.specs.declared.class.Class.{Class}
 use Rattle.mq_differences.specs.declared.class.Class.TheVariants as classes
 use Rattle.mq_differences.specs.declared.difference.Difference.{Difference}
-use Rattle.mq_differences.specs.declared.fault.ComparisonFault.{ComparisonFault}
-use Rattle.mq_differences.specs.declared.fault.ComparisonFault.TheVariants as comparison
-use Rattle.mq_differences.specs.declared.fault.Side.TheVariants.{Old, New}
 use Rattle.mq_differences.specs.declared.reason.Reason.{Reason}
 use Rattle.mq_differences.specs.declared.reason.Reason.TheVariants.{Broker, Deny, Grant, NoGrant}
 use Rattle.mq_differences.specs.declared.way.Way.{Way}
 use Rattle.mq_differences.specs.declared.way.Way.TheVariants.{Gained, Lost}
-use Rattle.mq_who.specs.Faults.{IsWhoFault, fault_of}
-use Rattle.mq_who.specs.Made.{IsMade, access_of, is_decided}
+use Rattle.mq_who.specs.Made.{IsMade, is_decided}
 use Rattle.mq_who.specs.Who.{AreMarked, IsListing, IsReal, Shows, ShowsOthers}
-use Rattle.mq_who.specs.Who.{asked_row, is_like, is_listed_in, is_member}
-use Rattle.mq_who.proofs.MadeLemmas.{case_changes, change_is, compared, decides, line_of, marked}
-use Rattle.mq_who.proofs.MadeLemmas.{names_are, not_long, users_are, way_of}
+use Rattle.mq_who.specs.Who.{is_asked, is_like, is_listed_in, is_member}
+use Rattle.mq_who.proofs.AskedLemmas.{asked_found}
+use Rattle.mq_who.proofs.MadeLemmas.{case_changes, change_is, decides, way_of}
+use Rattle.mq_who.proofs.NamedLemmas.{names_are, users_are}
 
--- ---- those that the row decides
+-- ---- those that a row of the made list decides
 way_itself : (way : Way) → same_way way way ≡ true
 way_itself Gained = refl
 way_itself Lost = refl
@@ -94,11 +95,8 @@ any_kept p q f step (x ∷ xs) h = at (p x) (f x) refl refl h (any_kept p q f st
 abbrev IsOf : (allows : Bool) → Difference → Type 0
 IsOf allows d = (d.way ≡ way_of allows) × (d.new_reason ≡ decides allows)
 
-module _ (rules : Rules) (allows : Bool) (rows : List Row) (wanted : List ℕ) (row : Row)
-    (view : row_view row ≡ asked_row (access_of allows) wanted) (line : row.line ≡ 0) where
-  abbrev made : List Row
-  made = row ∷ []
-
+module _ (rules : Rules) (allows : Bool) (rows : List Row) (wanted : List ℕ) (made : List Row)
+    (m : IsMade rules allows rows wanted made) where
   abbrev kept : Difference → Bool
   kept d = is_decided d.new_reason
 
@@ -112,17 +110,17 @@ module _ (rules : Rules) (allows : Bool) (rows : List Row) (wanted : List ℕ) (
   member_is (Some user) classes.Anonymous = refl
   member_is (Some user) (classes.User name) =
       ap (λ b. bytes_eq user (string_bytes name) && b)
-      (users_are allows wanted row view line rows user)
+      (users_are rules allows rows wanted made m user)
   member_is (Some user) (classes.Others name) =
-      ap not (users_are allows wanted row view line rows user)
+      ap not (users_are rules allows rows wanted made m user)
 
   -- ---- what is listed
-  -- what changes, and is decided by the row, is what is asked
+  -- what changes, and is decided by a row of it, is what is asked
   asked_of : (d : Difference) (client : List ℕ) (user : Option (List ℕ)) (topic : List ℕ)
       → kept d ≡ true → differences.Shows rules rows made d client user topic
-      → Shows rules allows rows wanted d client user topic × (d.way ≡ way_of allows)
+      → Shows rules allows rows wanted d client user topic × IsOf allows d
   asked_of d client user topic k s =
-      let is = change_is allows wanted row view line rules rows d.way client user topic d.direction
+      let is = change_is rules allows rows wanted made m d.way client user topic d.direction
       s.change (sym (ap is_decided s.new_reason) ∙ k) in (
         record {
           client_fits = s.client_fits;
@@ -132,7 +130,7 @@ module _ (rules : Rules) (allows : Bool) (rows : List Row) (wanted : List ℕ) (
           case = is.0;
           reason = s.old_reason;
         },
-        is.1,
+        (is.1.0, s.new_reason ∙ is.1.1),
       )
 
   listed : (direction : Direction) (client : List ℕ) (user : Option (List ℕ)) (topic : List ℕ)
@@ -160,20 +158,38 @@ module _ (rules : Rules) (allows : Bool) (rows : List Row) (wanted : List ℕ) (
       parts true j false w s o n same e = absurd (let q : false ≡ true = e in cc)
       parts false j dir w s o n same e = absurd (let q : false ≡ true = e in cc)
 
+  shows_by : (r : Rules) → rules ≡ r → (d : Difference) (client : List ℕ) (user : Option (List ℕ))
+      (topic : List ℕ) → kept d ≡ true → differences.Shows r rows made d client user topic
+      → Shows r allows rows wanted d client user topic
+  shows_by r e d client user topic k =
+      subst (λ (x : Rules). differences.Shows x rows made d client user topic
+      → Shows x allows rows wanted d client user topic) e
+      (λ s. (asked_of d client user topic k s).0)
+
+  stands_so : (r : Rules) → rules ≡ r → (asked : AskedRows) (d : Difference) → kept d ≡ true
+      → differences.ShowsOthers r rows made asked d → ShowsOthers r allows rows wanted asked d
+  stands_so Own e asked d k s = λ text other stands valid taken.
+      shows_by Own e d (swap text other (string_bytes d.client))
+      (swap_user text other (user_of d.class)) (swap_name text other d.topic) k
+      (s text other stands valid taken)
+  stands_so Mosquitto e asked d k s = λ level other stands client user valid taken.
+      shows_by Mosquitto e d (swap_levels level other (string_bytes d.client))
+      (leveled.swap_user level other (user_of d.class)) (swap_levels level other d.topic) k
+      (s level other stands client user valid taken)
+
   marked_are : (all : List Difference) → differences.AreMarked rules rows made all
       → AreMarked rules allows rows wanted (filter kept all)
   marked_are all a = record {
     asked = a.asked;
-    names = λ text. ap (rows_name text) a.rows ∙ names_are allows wanted row view line rows text;
+    rules_are = a.rules_are;
+    names = λ text. ap (names_by a.asked.rules text) a.rows
+        ∙ names_are rules allows rows wanted made m a.asked.rules text;
     marked = All-filter kept (IsMarked a.asked) all a.marked;
     unnamed = All-filter kept (AreUnnamed a.asked) all a.unnamed;
     known = All-filter kept (IsKnown a.asked) all a.known;
     stands = all_kept (differences.ShowsOthers rules rows made a.asked)
-        (ShowsOthers rules allows rows wanted a.asked) kept
-        (λ d k s text other stands valid taken.
-        (asked_of d (swap text other (string_bytes d.client))
-        (swap_user text other (user_of d.class)) (swap_name text other d.topic) k
-        (s text other stands valid taken)).0) all a.stands;
+        (ShowsOthers rules allows rows wanted a.asked) kept (stands_so rules refl a.asked) all
+        a.stands;
   }
 
   -- no two that are kept are alike
@@ -186,13 +202,7 @@ module _ (rules : Rules) (allows : Bool) (rows : List Row) (wanted : List ℕ) (
     where
       are : All (IsOf allows) (filter kept all)
       are = all_kept (differences.IsReal rules rows made) (IsOf allows) kept
-          (λ d k s.
-          let is = asked_of d (string_bytes d.client) (user_of d.class) d.topic k s in (
-            is.1,
-            s.new_reason
-                ∙ (case_changes allows wanted row view line rules rows (string_bytes d.client)
-                (user_of d.class) d.topic d.direction is.0.case).1,
-          )) all real
+          (λ d k s. (asked_of d (string_bytes d.client) (user_of d.class) d.topic k s).1) all real
 
       both : (d e : Difference) → IsOf allows d → IsOf allows e
           → differences.is_like d e ≡ false
@@ -215,60 +225,25 @@ module _ (rules : Rules) (allows : Bool) (rows : List Row) (wanted : List ℕ) (
           parts true false w s o n x y e = refl
           parts false dir w s o n x y e = refl
 
-  listing_of : (all : List Difference) → ShowsAll rules rows made all
+  pub listing : (all : List Difference) → ShowsAll rules rows made all
       → All (differences.IsReal rules rows made) all → differences.AreApart all
       → differences.AreMarked rules rows made all
       → IsListing rules allows rows wanted (filter kept all)
-  listing_of all t r o a = record {
+  listing all t r o a = record {
     lists = λ direction client topic user c u q v e.
-        let is = case_changes allows wanted row view line rules rows client user topic direction e
-        in
+        let parts = and_parts (not (refuses rules direction topic)
+        && is_asked rules wanted client user topic)
+        (same allows (allow_by rules (row_views rows) client user topic direction)) e in
+        let is = case_changes rules allows rows wanted made m client user topic direction e
+        (asked_found rules allows rows made wanted m client topic user direction u q parts.1
+        (and_parts (not (refuses rules direction topic)) (is_asked rules wanted client user topic)
+        parts.0).1) in
         any_kept (is_shown_of rules rows made (way_of allows) direction client user topic)
         (is_listed_in rules rows direction client user topic) kept
         (listed direction client user topic is.1) all
-        (t (way_of allows) direction client topic user c u
-        (compared allows wanted row view line rules rows client user ∙ q) v is.0);
+        (t (way_of allows) direction client topic user c u v is.0);
     real = all_kept (differences.IsReal rules rows made) (IsReal rules allows rows wanted) kept
         (λ d k s. (asked_of d (string_bytes d.client) (user_of d.class) d.topic k s).0) all r;
     once = apart all r o;
     marked = marked_are all a;
   }
-
-  -- ---- the faults
-  fault_by : (steps : ℕ) (fault : ComparisonFault) → has_short_levels wanted ≡ true
-      → IsComparisonFault rules rows made steps fault
-      → IsWhoFault rules rows wanted steps (fault_of fault)
-  fault_by steps comparison.Memory short f = f
-  fault_by steps (comparison.OldLine l) short f = f
-  fault_by steps (comparison.NewLine l) short f =
-      absurd (not_long allows wanted row view line short l f)
-  fault_by steps (comparison.OldMark l) short f = f
-  fault_by steps (comparison.NewMark l) short f = marked allows wanted row view line rules l f
-  fault_by steps (comparison.GaveUp Old l others) short f =
-      (Contains-append_left (line_views rows) (0 ∷ []) l f.0, f.1)
-  fault_by steps (comparison.GaveUp New l others) short f =
-      (line_of allows wanted row view line rows l f.0, f.1)
-
--- ---- what is said of any list that was made
-pub listing : (rules : Rules) (allows : Bool) (rows : List Row) (wanted : List ℕ) (new : List Row)
-    (all : List Difference) → IsMade allows wanted new → ShowsAll rules rows new all
-    → All (differences.IsReal rules rows new) all → differences.AreApart all
-    → differences.AreMarked rules rows new all
-    → IsListing rules allows rows wanted
-    (filter (λ (d : Difference). is_decided d.new_reason) all)
-listing rules allows rows wanted new all m =
-    subst (λ (l : List Row). ShowsAll rules rows l all
-    → All (differences.IsReal rules rows l) all → differences.AreApart all
-    → differences.AreMarked rules rows l all
-    → IsListing rules allows rows wanted
-    (filter (λ (d : Difference). is_decided d.new_reason) all)) (sym m.are)
-    (listing_of rules allows rows wanted m.row m.view m.line all)
-
-pub fault_is : (rules : Rules) (allows : Bool) (rows : List Row) (wanted : List ℕ)
-    (new : List Row) (steps : ℕ) (fault : ComparisonFault) → IsMade allows wanted new
-    → has_short_levels wanted ≡ true → IsComparisonFault rules rows new steps fault
-    → IsWhoFault rules rows wanted steps (fault_of fault)
-fault_is rules allows rows wanted new steps fault m short =
-    subst (λ (l : List Row). IsComparisonFault rules rows l steps fault
-    → IsWhoFault rules rows wanted steps (fault_of fault)) (sym m.are)
-    (fault_by rules allows rows wanted m.row m.view m.line steps fault short)

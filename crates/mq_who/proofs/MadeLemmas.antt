@@ -1,81 +1,143 @@
 -- A list that is made of a filter: what it decides, and what changes to it.
-use Rattle.std.proofs.Common.{◌≡◌, ◌==◌, ℕ, Bool, true, false, not, ◌&&◌, ◌||◌, cond, List, [], ◌∷◌}
-use Rattle.std.proofs.Common.{◌++◌, Option, Some, None, Contains, refl, ap, sym, ◌∙◌, subst}
-use Rattle.std.specs.List.{list_all}
-use Rattle.std.specs.Option.{option_map}
-use Rattle.std.specs.Prelude.{find, if◌then◌else◌}
+use Rattle.std.proofs.Common.{◌≡◌, ◌==◌, ℕ, Bool, true, false, not, ◌&&◌, ◌||◌, List, [], ◌∷◌}
+use Rattle.std.proofs.Common.{◌++◌, Option, Some, None, All, get_or, refl, ap, sym, ◌∙◌, arith}
+use Rattle.std.specs.List.{list_any}
+use Rattle.std.specs.Option.{option_or}
+use Rattle.std.specs.Prelude.{find, if◌then◌else◌, is_some}
 use Rattle.std.proofs.lemmas.Bool.{and_parts, not-true}
-use Rattle.std.proofs.lemmas.List.Elements.{Contains-append_right}
-use Rattle.std.proofs.lemmas.List.Folds.{list_any-append}
-use Rattle.mq_topic.specs.Levels.{levels}
-use Rattle.mq_acl.specs.Access.{applies, covers, is_deny}
+use Rattle.std.proofs.lemmas.List.Elements.{All-head, All-tail}
+use Rattle.std.proofs.lemmas.List.Folds.{find-append}
+use Rattle.mq_acl.specs.Access.{grants, is_deny}
 use Rattle.mq_acl.specs.AccessLists.{allow_by, concerns_by, user_by}
-use Rattle.mq_acl.specs.Lines.{Access, is_pattern_level}
-use Rattle.mq_acl.specs.Mosquitto.{known_user, row_covers}
 use Rattle.mq_acl.specs.Refused.{refuses}
-use Rattle.mq_acl.specs.Rows.{AclRow, Everyone}
+use Rattle.mq_acl.specs.Rows.{AclRow}
 use Rattle.mq_acl.specs.RowsByOwner.{is_everyones}
-use Rattle.mq_acl.specs.Views.{line_views, row_view, row_views}
+use Rattle.mq_acl.specs.Views.{row_view, row_views}
 use Rattle.mq_acl.specs.declared.access.Direction.{Direction}
 use Rattle.mq_acl.specs.declared.access.Direction.TheVariants.{Reading, Writing}
 use Rattle.mq_acl.specs.declared.row.Row.{Row}
 use Rattle.mq_acl.specs.declared.rules.Rules.{Rules}
 use Rattle.mq_acl.specs.declared.rules.Rules.TheVariants.{Own, Mosquitto}
-use Rattle.mq_cover.specs.Names.{can_be_level}
-use Rattle.mq_witness.specs.Limits.{has_short_levels, is_short_row, long_line, marked_line}
-use Rattle.mq_witness.specs.Literals.{is_literal_in}
 use Rattle.mq_witness.specs.Roots.{same}
-use Rattle.mq_witness.specs.Rows.{row_names, rows_name}
-use Rattle.mq_witness.specs.Ruled.{are_asked_of, has_patterns, has_whole_marks}
-use Rattle.mq_differences.specs.Classes.{is_listed}
 use Rattle.mq_differences.specs.Differences.{is_change}
-use Rattle.mq_differences.specs.Ranks.{is_judge, judges, rank}
+use Rattle.mq_differences.specs.Ranks.{is_judge, judges, rank, rank_of, ranked}
 use Rattle.mq_differences.specs.Reasons.{is_grant, reason_by, reason_of}
 use Rattle.mq_differences.specs.declared.reason.Reason.{Reason}
 use Rattle.mq_differences.specs.declared.reason.Reason.TheVariants as reasons
 use Rattle.mq_differences.specs.declared.way.Way.{Way}
 use Rattle.mq_differences.specs.declared.way.Way.TheVariants.{Gained, Lost}
 use Rattle.mq_differences.proofs.ChangeLemmas.{changed_open}
-use Rattle.mq_differences.proofs.DeciderLemmas.{allowed_is, open_reason}
-use Rattle.mq_who.specs.Who.{are_asked, asked_row, is_asked, is_case}
-use Rattle.mq_who.specs.Made.{access_of, is_decided}
+use Rattle.mq_differences.proofs.DeciderLemmas.{allowed_is, any_found, find_filter, open_reason}
+use Rattle.mq_who.specs.Made.{IsMade, IsMadeRow, access_of, is_decided}
+use Rattle.mq_who.specs.Who.{is_asked, is_case}
+use Rattle.mq_who.proofs.AskedLemmas.{all_judges, found_asked, is_found}
+use Rattle.mq_who.proofs.ClaimLemmas.{found}
 
--- ---- the row of the filter
-everyone_applies : (user : Option (List ℕ)) → applies user Everyone ≡ true
-everyone_applies None = refl
-everyone_applies (Some user) = refl
+-- ---- which of its rows decide
+-- each may in both directions
+made_judges : (allows : Bool) (direction : Direction)
+    → (is_deny (access_of allows) || grants direction (access_of allows)) ≡ true
+made_judges true direction = refl
+made_judges false Reading = refl
+made_judges false Writing = refl
 
--- it concerns just what the filter matches
-asked_concerns : (rules : Rules) (access : Access) (wanted client topic : List ℕ)
-    (user : Option (List ℕ))
-    → concerns_by rules client (user_by rules user) topic (asked_row access wanted)
-    ≡ is_asked rules wanted client user topic
-asked_concerns Own access wanted client topic user =
-    ap (λ b. b && covers client user topic (asked_row access wanted)) (everyone_applies user)
-asked_concerns Mosquitto access wanted client topic user =
-    ap (λ b. b && row_covers client (known_user user) topic (asked_row access wanted))
-    (everyone_applies (known_user user))
+row_judges : (allows : Bool) (wanted : List ℕ) (direction : Direction) (row : Row)
+    → IsMadeRow allows wanted row → is_judge direction (row_view row) ≡ true
+row_judges allows wanted direction row is =
+    (λ i. is_deny (is.access i) || grants direction (is.access i)) ∙ made_judges allows direction
 
--- the row, if it is of this rank
-abbrev at_rank : Rules → Direction → Row → AclRow → ℕ → List Row
-at_rank rules direction row view place =
-    cond (is_judge direction view && (rank rules view == place)) (row ∷ []) []
+-- and is of one of the ranks
+of_rank : (j e d x : Bool) → j ≡ true
+    → (((j && (rank_of e d == 0)) && x) || (((j && (rank_of e d == 1)) && x)
+    || (((j && (rank_of e d == 2)) && x) || ((j && (rank_of e d == 3)) && x)))) ≡ x
+of_rank true true true true h = refl
+of_rank true true true false h = refl
+of_rank true true false true h = refl
+of_rank true true false false h = refl
+of_rank true false true true h = refl
+of_rank true false true false h = refl
+of_rank true false false true h = refl
+of_rank true false false false h = refl
+of_rank false e d x h = absurd (let q : false ≡ true = h in cc)
 
-abbrev judges_by : Rules → Direction → Row → AclRow → List Row
-judges_by rules direction row view = at_rank rules direction row view 0
-    ++ (at_rank rules direction row view 1
-    ++ (at_rank rules direction row view 2 ++ at_rank rules direction row view 3))
+module _ (rules : Rules) (direction : Direction) (c : AclRow → Bool) where
+  abbrev at_rank : ℕ → AclRow → Bool
+  at_rank place row = is_judge direction row && (rank rules row == place)
 
--- it may decide in both directions
-judges_are : (rules : Rules) (allows : Bool) (direction : Direction) (row : Row) (wanted : List ℕ)
-    → judges_by rules direction row (asked_row (access_of allows) wanted) ≡ row ∷ []
-judges_are Own true direction row wanted = refl
-judges_are Own false Reading row wanted = refl
-judges_are Own false Writing row wanted = refl
-judges_are Mosquitto true direction row wanted = refl
-judges_are Mosquitto false Reading row wanted = refl
-judges_are Mosquitto false Writing row wanted = refl
+  abbrev some_at : ℕ → List Row → Bool
+  some_at place rows = list_any (λ (row : AclRow). at_rank place row && c row) (row_views rows)
 
+  one_rank : (r : Rules) (row : AclRow) → is_judge direction row ≡ true
+      → (((is_judge direction row && (rank r row == 0)) && c row)
+      || (((is_judge direction row && (rank r row == 1)) && c row)
+      || (((is_judge direction row && (rank r row == 2)) && c row)
+      || ((is_judge direction row && (rank r row == 3)) && c row)))) ≡ c row
+  one_rank Own row h = of_rank (is_judge direction row) false (is_deny row.access) (c row) h
+  one_rank Mosquitto row h =
+      of_rank (is_judge direction row) (is_everyones row.who) (is_deny row.access) (c row) h
+
+  four : (a b d e s t u v : Bool) → ((a || s) || ((b || t) || ((d || u) || (e || v))))
+      ≡ ((a || (b || (d || e))) || (s || (t || (u || v))))
+  four true b d e s t u v = refl
+  four false b d e true t u v = sym (or_true (b || (d || e)))
+    where
+      or_true : (x : Bool) → (x || true) ≡ true
+      or_true true = refl
+      or_true false = refl
+  four false b d e false t u v = three b d e t u v
+    where
+      three : (b d e t u v : Bool) → ((b || t) || ((d || u) || (e || v)))
+          ≡ ((b || (d || e)) || (t || (u || v)))
+      three b d e t u v = grind arith
+
+  ranks_are : (rows : List Row) → All (λ (r : Row). is_judge direction (row_view r) ≡ true) rows
+      → (some_at 0 rows || (some_at 1 rows || (some_at 2 rows || some_at 3 rows)))
+      ≡ list_any c (row_views rows)
+  ranks_are [] h = refl
+  ranks_are (row ∷ rows) h =
+      four (at_rank 0 (row_view row) && c (row_view row))
+      (at_rank 1 (row_view row) && c (row_view row))
+      (at_rank 2 (row_view row) && c (row_view row))
+      (at_rank 3 (row_view row) && c (row_view row))
+      (some_at 0 rows) (some_at 1 rows) (some_at 2 rows) (some_at 3 rows)
+      ∙ (λ i. one_rank rules (row_view row)
+      (All-head (λ (r : Row). is_judge direction (row_view r) ≡ true) row rows h) i
+      || ranks_are rows
+      (All-tail (λ (r : Row). is_judge direction (row_view r) ≡ true) row rows h) i)
+
+  abbrev test : Row → Bool
+  test r = c (row_view r)
+
+  some_or : (a b : Option Row) → is_some (option_or a b) ≡ (is_some a || is_some b)
+  some_or (Some x) b = refl
+  some_or None b = refl
+
+  ranked_some : (place : ℕ) (rows : List Row)
+      → is_some (find test (ranked rules direction place rows)) ≡ some_at place rows
+  ranked_some place rows =
+      ap is_some (find_filter test (λ (r : Row). at_rank place (row_view r)) rows)
+      ∙ sym (any_found (λ (row : AclRow). at_rank place row && c row) rows)
+
+  -- one that passes is found just where there is one
+  pub judge_found : (rows : List Row)
+      → All (λ (r : Row). is_judge direction (row_view r) ≡ true) rows
+      → is_some (find test (judges rules direction rows)) ≡ list_any c (row_views rows)
+  judge_found rows h =
+      parts (ranked rules direction 0 rows)
+      (ranked rules direction 1 rows
+      ++ (ranked rules direction 2 rows ++ ranked rules direction 3 rows))
+      ∙ (λ i. ranked_some 0 rows i || (parts (ranked rules direction 1 rows)
+      (ranked rules direction 2 rows ++ ranked rules direction 3 rows)
+      ∙ (λ j. ranked_some 1 rows j || (parts (ranked rules direction 2 rows)
+      (ranked rules direction 3 rows)
+      ∙ (λ k. ranked_some 2 rows k || ranked_some 3 rows k)) j)) i)
+      ∙ ranks_are rows h
+    where
+      parts : (xs ys : List Row) → is_some (find test (xs ++ ys))
+          ≡ (is_some (find test xs) || is_some (find test ys))
+      parts xs ys = ap is_some (find-append test xs ys) ∙ some_or (find test xs) (find test ys)
+
+-- ---- what it decides
 -- how it decides, where it does
 abbrev pub decides : (allows : Bool) → Reason
 decides true = reasons.Deny 0
@@ -103,56 +165,61 @@ change_by : (rules : Rules) (way : Way) (old new : List AclRow) (client : List �
 change_by rules Gained old new client user topic direction = refl
 change_by rules Lost old new client user topic direction = refl
 
-module _ (allows : Bool) (wanted : List ℕ) (row : Row)
-    (view : row_view row ≡ asked_row (access_of allows) wanted) (line : row.line ≡ 0) where
-  reason_is : (rules : Rules) (client : List ℕ) (user : Option (List ℕ)) (topic : List ℕ)
+-- what one of its rows does
+row_decides : (allows : Bool) (wanted : List ℕ) (row : Row) → IsMadeRow allows wanted row
+    → reason_by (Some row) ≡ decides allows
+row_decides allows wanted row is =
+    (λ i. if is_deny (is.access i) then reasons.Deny (is.line i) else reasons.Grant (is.line i))
+    ∙ at allows
+  where
+    at : (a : Bool) → (if is_deny (access_of a) then reasons.Deny 0 else reasons.Grant 0)
+        ≡ decides a
+    at true = refl
+    at false = refl
+
+module _ (rules : Rules) (allows : Bool) (rows : List Row) (wanted : List ℕ) (made : List Row)
+    (m : IsMade rules allows rows wanted made) where
+  reason_is : (client : List ℕ) (user : Option (List ℕ)) (topic : List ℕ)
       (direction : Direction) → refuses rules direction topic ≡ false
-      → reason_of rules (row ∷ []) client user topic direction
-      ≡ says allows (is_asked rules wanted client user topic)
-  reason_is rules client user topic direction taken =
-      open_reason rules (row ∷ []) client user topic direction taken
-      ∙ (λ i. reason_by (found (judged i)))
-      ∙ (λ i. reason_by (cond (met i) (Some row) None))
-      ∙ at allows (is_asked rules wanted client user topic) view
+      → reason_of rules made client user topic direction
+      ≡ says allows (is_found rules made client user topic)
+  reason_is client user topic direction taken =
+      open_reason rules made client user topic direction taken
+      ∙ at (find concerns (judges rules direction made)) refl
+      (judge_found rules direction (concerns_by rules client (user_by rules user) topic) made
+      (λ k d low. row_judges allows wanted direction (get_or made k d) (m.rows k d low)))
     where
-      found : List Row → Option Row
-      found rows = find (λ (r : Row).
-          concerns_by rules client (user_by rules user) topic (row_view r)) rows
+      concerns : Row → Bool
+      concerns r = concerns_by rules client (user_by rules user) topic (row_view r)
 
-      judged : judges rules direction (row ∷ []) ≡ row ∷ []
-      judged = (λ i. judges_by rules direction row (view i))
-          ∙ judges_are rules allows direction row wanted
+      at : (o : Option Row) → find concerns (judges rules direction made) ≡ o
+          → is_some o ≡ is_found rules made client user topic
+          → reason_by o ≡ says allows (is_found rules made client user topic)
+      at None e f = ap (says allows) f
+      at (Some row) e f =
+          row_decides allows wanted row
+          (found concerns (IsMadeRow allows wanted) (judges rules direction made) row e
+          (all_judges (IsMadeRow allows wanted) rules direction made m.rows)).1
+          ∙ ap (says allows) f
 
-      met : concerns_by rules client (user_by rules user) topic (row_view row)
-          ≡ is_asked rules wanted client user topic
-      met = ap (concerns_by rules client (user_by rules user) topic) view
-          ∙ asked_concerns rules (access_of allows) wanted client topic user
-
-      at : (a m : Bool) → row_view row ≡ asked_row (access_of a) wanted
-          → reason_by (cond m (Some row) None) ≡ says a m
-      at a false v = refl
-      at true true v = (λ i. if is_deny (v i).access then reasons.Deny (line i)
-          else reasons.Grant (line i))
-      at false true v = (λ i. if is_deny (v i).access then reasons.Deny (line i)
-          else reasons.Grant (line i))
-
-  allow_is : (rules : Rules) (client : List ℕ) (user : Option (List ℕ)) (topic : List ℕ)
+  allow_is : (client : List ℕ) (user : Option (List ℕ)) (topic : List ℕ)
       (direction : Direction) → refuses rules direction topic ≡ false
-      → allow_by rules (row_views (row ∷ [])) client user topic direction
-      ≡ is_grant (says allows (is_asked rules wanted client user topic))
-  allow_is rules client user topic direction taken =
-      allowed_is rules (row ∷ []) client user topic direction
-      ∙ ap is_grant (reason_is rules client user topic direction taken)
+      → allow_by rules (row_views made) client user topic direction
+      ≡ is_grant (says allows (is_found rules made client user topic))
+  allow_is client user topic direction taken =
+      allowed_is rules made client user topic direction
+      ∙ ap is_grant (reason_is client user topic direction taken)
 
   -- ---- what changes
-  -- what is asked changes, and the row decides
-  pub case_changes : (rules : Rules) (rows : List Row) (client : List ℕ)
-      (user : Option (List ℕ)) (topic : List ℕ) (direction : Direction)
+  -- what is asked changes where a row of it concerns that, and the row decides
+  pub case_changes : (client : List ℕ) (user : Option (List ℕ)) (topic : List ℕ)
+      (direction : Direction)
       → is_case rules allows (row_views rows) wanted client user topic direction ≡ true
-      → (is_change rules (way_of allows) (row_views rows) (row_views (row ∷ [])) client user topic
+      → is_found rules made client user topic ≡ true
+      → (is_change rules (way_of allows) (row_views rows) (row_views made) client user topic
       direction ≡ true)
-      × (reason_of rules (row ∷ []) client user topic direction ≡ decides allows)
-  case_changes rules rows client user topic direction e =
+      × (reason_of rules made client user topic direction ≡ decides allows)
+  case_changes client user topic direction e f =
       let parts = and_parts (not (refuses rules direction topic)
       && is_asked rules wanted client user topic)
       (same allows (allow_by rules (row_views rows) client user topic direction)) e in
@@ -160,13 +227,13 @@ module _ (allows : Bool) (wanted : List ℕ) (row : Row)
       (is_asked rules wanted client user topic) parts.0 in
       let taken : refuses rules direction topic ≡ false =
       not-true (refuses rules direction topic) known.0 in (
-        change_by rules (way_of allows) (row_views rows) (row_views (row ∷ [])) client user topic
+        change_by rules (way_of allows) (row_views rows) (row_views made) client user topic
             direction
             ∙ at allows (allow_by rules (row_views rows) client user topic direction)
-            (allow_by rules (row_views (row ∷ [])) client user topic direction) parts.1
-            (allow_is rules client user topic direction taken
-            ∙ ap (λ m. is_grant (says allows m)) known.1),
-        reason_is rules client user topic direction taken ∙ ap (says allows) known.1,
+            (allow_by rules (row_views made) client user topic direction) parts.1
+            (allow_is client user topic direction taken
+            ∙ ap (λ b. is_grant (says allows b)) f),
+        reason_is client user topic direction taken ∙ ap (says allows) f,
       )
     where
       at : (s a b : Bool) → same s a ≡ true → b ≡ is_grant (says s true)
@@ -174,100 +241,39 @@ module _ (allows : Bool) (wanted : List ℕ) (row : Row)
       at true a b e g = (λ i. e i && not (g i))
       at false a b e g = (λ i. g i && e i)
 
-  -- where the row decides what changes, it is what is asked
-  pub change_is : (rules : Rules) (rows : List Row) (way : Way) (client : List ℕ)
-      (user : Option (List ℕ)) (topic : List ℕ) (direction : Direction)
-      → is_change rules way (row_views rows) (row_views (row ∷ [])) client user topic direction
-      ≡ true
-      → is_decided (reason_of rules (row ∷ []) client user topic direction) ≡ true
+  -- where a row of it decides what changes, that is what is asked
+  pub change_is : (way : Way) (client : List ℕ) (user : Option (List ℕ)) (topic : List ℕ)
+      (direction : Direction)
+      → is_change rules way (row_views rows) (row_views made) client user topic direction ≡ true
+      → is_decided (reason_of rules made client user topic direction) ≡ true
       → (is_case rules allows (row_views rows) wanted client user topic direction ≡ true)
-      × (way ≡ way_of allows)
-  change_is rules rows way client user topic direction c d =
-      let taken = changed_open rules way (row_views rows) (row_views (row ∷ [])) client user topic
+      × ((way ≡ way_of allows)
+      × (reason_of rules made client user topic direction ≡ decides allows))
+  change_is way client user topic direction c d =
+      let taken = changed_open rules way (row_views rows) (row_views made) client user topic
       direction c in
-      parts allows (refuses rules direction topic) (is_asked rules wanted client user topic)
+      let reason = reason_is client user topic direction taken in
+      let is = parts allows (refuses rules direction topic)
+      (is_asked rules wanted client user topic)
       (allow_by rules (row_views rows) client user topic direction)
-      (allow_by rules (row_views (row ∷ [])) client user topic direction) way taken
-      (allow_is rules client user topic direction taken)
-      (sym (ap is_decided (reason_is rules client user topic direction taken)) ∙ d)
-      (sym (change_by rules way (row_views rows) (row_views (row ∷ [])) client user topic direction)
-      ∙ c)
+      (allow_by rules (row_views made) client user topic direction) way taken
+      (is_found rules made client user topic)
+      (found_asked rules allows rows made wanted m client topic user)
+      (allow_is client user topic direction taken)
+      (sym (ap is_decided reason) ∙ d)
+      (sym (change_by rules way (row_views rows) (row_views made) client user topic direction) ∙ c)
+      in (is.0, (is.1.0, reason ∙ ap (says allows) is.1.1))
     where
-      parts : (s r m a b : Bool) (w : Way) → r ≡ false → b ≡ is_grant (says s m)
-          → is_decided (says s m) ≡ true → changes_by w a b ≡ true
-          → ((not r && m && same s a) ≡ true) × (w ≡ way_of s)
-      parts s true m a b w t g d e = absurd (let q : true ≡ false = t in cc)
-      parts s false false a b w t g d e = absurd (let q : false ≡ true = d in cc)
-      parts true false true a b Gained t g d e =
+      parts : (s r m a b : Bool) (w : Way) → r ≡ false → (f : Bool) → (f ≡ true → m ≡ true)
+          → b ≡ is_grant (says s f) → is_decided (says s f) ≡ true → changes_by w a b ≡ true
+          → ((not r && m && same s a) ≡ true) × ((w ≡ way_of s) × (f ≡ true))
+      parts s true m a b w t f asked g d e = absurd (let q : true ≡ false = t in cc)
+      parts s false m a b w t false asked g d e = absurd (let q : false ≡ true = d in cc)
+      parts true false m a b Gained t true asked g d e =
           absurd (let q : false ≡ true = sym (ap (λ x. x && not a) g) ∙ e in cc)
-      parts true false true a b Lost t g d e = ((and_parts a (not b) e).0, refl)
-      parts false false true a b Gained t g d e = ((and_parts b (not a) e).1, refl)
-      parts false false true a b Lost t g d e =
+      parts true false m a b Lost t true asked g d e =
+          ((λ i. asked refl i && (and_parts a (not b) e).0 i), (refl, refl))
+      parts false false m a b Gained t true asked g d e =
+          ((λ i. asked refl i && (and_parts b (not a) e).1 i), (refl, refl))
+      parts false false m a b Lost t true asked g d e =
           absurd (let q : false ≡ true = sym (ap not g) ∙ (and_parts a (not b) e).1 in cc)
-
-  -- ---- what it names
-  pub users_are : (rows : List Row) (user : List ℕ)
-      → is_listed (row_views rows) (row_views (row ∷ [])) user ≡ is_listed (row_views rows) [] user
-  users_are rows user = ap (λ p. is_listed (row_views rows) (p ∷ []) user) view
-
-  pub names_are : (rows : List Row) (text : List ℕ)
-      → rows_name text (row_views rows ++ row_views (row ∷ []))
-      ≡ (rows_name text (row_views rows) || is_literal_in text (levels wanted))
-  names_are rows text =
-      ap (λ p. rows_name text (row_views rows ++ (p ∷ []))) view
-      ∙ list_any-append (row_names text) (row_views rows)
-      (asked_row (access_of allows) wanted ∷ [])
-      ∙ named (rows_name text (row_views rows)) (is_literal_in text (levels wanted))
-    where
-      named : (r l : Bool) → (r || ((l || false) || false)) ≡ (r || l)
-      named true l = refl
-      named false true = refl
-      named false false = refl
-
-  -- ---- whom it is about
-  patterns : (rows : List Row) → has_patterns (row_views rows ++ row_views (row ∷ [])) ≡ true
-  patterns rows =
-      ap (λ p. has_patterns (row_views rows ++ (p ∷ []))) view
-      ∙ list_any-append (λ (r : AclRow). is_everyones r.who) (row_views rows)
-      (asked_row (access_of allows) wanted ∷ [])
-      ∙ or_true (has_patterns (row_views rows))
-    where
-      or_true : (b : Bool) → (b || (true || false)) ≡ true
-      or_true true = refl
-      or_true false = refl
-
-  pub compared : (rules : Rules) (rows : List Row) (client : List ℕ) (user : Option (List ℕ))
-      → are_asked_of rules (row_views rows ++ row_views (row ∷ [])) client user
-      ≡ are_asked rules client user
-  compared Own rows client None = refl
-  compared Own rows client (Some user) = refl
-  compared Mosquitto rows client None =
-      (λ i. (not (patterns rows i) || can_be_level client) && true)
-  compared Mosquitto rows client (Some user) =
-      (λ i. (not (patterns rows i) || can_be_level client)
-      && (not (patterns rows i) || can_be_level user))
-
-  -- ---- the faults
-  pub line_of : (rows : List Row) (l : ℕ) → Contains (line_views (row ∷ [])) l
-      → Contains (line_views rows ++ (0 ∷ [])) l
-  line_of rows l c = Contains-append_right (line_views rows) (0 ∷ []) l
-      (subst (λ n. Contains (n ∷ []) l) line c)
-
-  pub not_long : has_short_levels wanted ≡ true → (l : ℕ) → long_line (row ∷ []) ≡ Some l → ⊥
-  not_long short l e = let q : None ≡ Some l =
-      sym (ap (λ p. option_map (λ (r : Row). r.line) (cond (not (is_short_row p)) (Some row) None))
-      view ∙ ap (λ b. option_map (λ (r : Row). r.line) (cond (not (b && true)) (Some row) None))
-      short) ∙ e in cc
-
-  pub marked : (rules : Rules) (l : ℕ) → marked_line rules (row ∷ []) ≡ Some l
-      → (rules ≡ Mosquitto) × (list_all is_pattern_level (levels wanted) ≡ false)
-  marked Own l e = absurd (let q : None ≡ Some l = e in cc)
-  marked Mosquitto l e = (
-    refl,
-    sym (ap has_whole_marks view) ∙ at (has_whole_marks (row_view row)) e,
-  )
-    where
-      at : (b : Bool) → option_map (λ (r : Row). r.line) (cond (not b) (Some row) None) ≡ Some l
-          → b ≡ false
-      at true e = absurd (let q : None ≡ Some l = e in cc)
-      at false e = refl

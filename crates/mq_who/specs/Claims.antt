@@ -13,8 +13,6 @@ use Rattle.mq_acl.specs.Views.{row_views}
 use Rattle.mq_acl.specs.declared.access.Direction.{Direction}
 use Rattle.mq_acl.specs.declared.row.Row.{Row}
 use Rattle.mq_acl.specs.declared.rules.Rules.{Rules}
-use Rattle.mq_acl.specs.declared.rules.Rules.TheVariants.{Own, Mosquitto}
-use Rattle.mq_cover.specs.Names.{can_be_level}
 use Rattle.mq_witness.specs.Clients.{can_be_id}
 use Rattle.mq_witness.specs.Rows.{is_user_of}
 use Rattle.mq_differences.specs.Classes.{can_be_user, user_of}
@@ -27,8 +25,7 @@ use Rattle.mq_expect.specs.declared.expectation.Holds.{Holds}
 use Rattle.mq_expect.specs.declared.expectation.Holds.TheVariants.{Every, AtLeastOne, Never}
 use Rattle.mq_expect.specs.Views.{whom_view}
 use Rattle.mq_expect.specs.declared.expectation.Whom.{Whom as Named}
-use Rattle.mq_who.specs.Unasked.{is_unasked}
-use Rattle.mq_who.specs.Who.{IsReal, are_asked, is_asked, is_case}
+use Rattle.mq_who.specs.Who.{IsReal, is_asked, is_case, is_left_out}
 use Rattle.mq_who.specs.declared.judge.Judgement.{Judgement}
 use Rattle.mq_who.specs.declared.judge.Judgement.TheVariants as judged
 
@@ -42,35 +39,25 @@ is_one rows (Some user) Others = not (is_user_of user rows)
 is_one rows None (User name) = false
 is_one rows (Some user) (User name) = bytes_eq user name
 
-abbrev pub is_anyone : Whom → Bool
-is_anyone Anyone = true
-is_anyone whom = false
-
--- it is expected of each, and not of one at least
-abbrev pub is_of_each : Holds → Bool
-is_of_each Every = true
-is_of_each AtLeastOne = false
-is_of_each Never = true
-
 -- all of it is to be allowed
 abbrev pub is_every : Holds → Bool
 is_every Every = true
 is_every AtLeastOne = false
 is_every Never = false
 
--- something is expected of the client in this direction: it is one of those that are meant, and none
--- of those that are excepted
+-- something is expected of the client in this direction: it is one of those that are meant, and
+-- none of those that are excepted
 abbrev pub is_claimed : List AclRow → Claim → Option (List ℕ) → Direction → Bool
 is_claimed rows claim user direction =
     is_one rows user claim.whom && not (list_any (is_one rows user) (excepted claim.except))
     && grants direction claim.access
 
--- the list allows all of it, or none; of what is to be allowed, the topics that the broker refuses by
--- itself aren't asked about
+-- the list allows all of it, or none; of what is to be allowed, nothing is asked about topics that
+-- the broker refuses by itself, nor about clients that are left out
 abbrev pub KeepsTo : Rules → (allows : Bool) → List Row → Claim → Type 0
 KeepsTo rules allows rows claim = (direction : Direction) (client topic : List ℕ)
     (user : Option (List ℕ)) → can_be_id client ≡ true → can_be_user user ≡ true
-    → are_asked rules client user ≡ true → is_name topic ≡ true
+    → (allows && is_left_out rules (row_views rows) client user) ≡ false → is_name topic ≡ true
     → (allows && refuses rules direction topic) ≡ false
     → is_claimed (row_views rows) claim user direction ≡ true
     → is_asked rules claim.topics client user topic ≡ true
@@ -91,7 +78,7 @@ pub record AllowsOne (rules : Rules) (rows : List Row) (claim : Claim) (directio
 -- or none
 abbrev pub AllowsNone : Rules → List Row → Claim → Direction → Type 0
 AllowsNone rules rows claim direction = (client topic : List ℕ) (user : Option (List ℕ))
-    → can_be_id client ≡ true → can_be_user user ≡ true → are_asked rules client user ≡ true
+    → can_be_id client ≡ true → can_be_user user ≡ true
     → is_name topic ≡ true → is_claimed (row_views rows) claim user direction ≡ true
     → is_asked rules claim.topics client user topic ≡ true
     → allow_by rules (row_views rows) client user topic direction ≡ false
@@ -121,47 +108,13 @@ IsMissing rules rows claim AtLeastOne direction =
 IsMissing rules rows claim how direction = ⊥
 
 -- ---- what is said
--- by mosquitto's rules nothing is asked about a user whose name has a slash or a wildcard
-abbrev pub is_asked_about : Rules → Whom → Bool
-is_asked_about Own whom = true
-is_asked_about Mosquitto Anyone = true
-is_asked_about Mosquitto Anonymous = true
-is_asked_about Mosquitto Others = true
-is_asked_about Mosquitto (User name) = can_be_level name
-
-abbrev pub IsUnasked : Rules → Whom → Bor (List ℕ) → Type 0
-IsUnasked rules whom name = (whom ≡ User name.now) × (is_asked_about rules whom ≡ false)
-
--- what is claimed is so of everybody only where it is of each user whom a line names
-abbrev pub is_of_all : Claim → Bool
-is_of_all claim = is_anyone claim.whom && is_of_each claim.holds
-
--- the claim means this user, and nothing is asked about it though a line names it
-abbrev pub is_left_out : Rules → List AclRow → Claim → List ℕ → Bool
-is_left_out rules rows claim name = is_of_all claim && is_unasked rules rows name
-    && not (list_any (is_one rows (Some name)) (excepted claim.except))
-
--- a user whom a line names is one of these
-abbrev pub is_named_one : List ℕ → Whom → Bool
-is_named_one name Anyone = true
-is_named_one name Anonymous = false
-is_named_one name Others = false
-is_named_one name (User other) = bytes_eq name other
-
-abbrev pub is_excepted : List ℕ → (others : List Named) → Bool
-is_excepted name others = list_any (λ w. is_named_one name (whom_view w)) others
-
--- of each user whom the claim means, and whom a line names, something is asked
-abbrev pub LeavesNoneOut : Rules → List Row → Claim → Type 0
-LeavesNoneOut rules rows claim = (name : List ℕ)
-    → is_left_out rules (row_views rows) claim name ≡ false
-
 -- no line names a user that the claim means or excepts
 abbrev pub IsUnnamed : List Row → Claim → Bor (List ℕ) → Type 0
 IsUnnamed rows claim name = (is_user_of name.now (row_views rows) ≡ false)
     × ((claim.whom ≡ User name.now) ⊎ Contains (excepted claim.except) (User name.now))
 
--- each client is to be allowed what the broker refuses by itself: the filter, read as a topic, is so
+-- each client is to be allowed what the broker refuses by itself: the filter, read as a topic, is
+-- so
 abbrev pub wants_refused : Rules → Claim → Direction → Bool
 wants_refused rules claim direction =
     is_every claim.holds && grants direction claim.access && refuses rules direction claim.topics
@@ -174,17 +127,13 @@ TakesAll rules claim = (direction : Direction) → wants_refused rules claim dir
 
 -- what is said of the claim is so
 abbrev pub IsJudgement : Rules → List Row → Claim → Judgement → Type 0
-IsJudgement rules rows claim judged.Holds = (is_asked_about rules claim.whom ≡ true)
-    × TakesAll rules claim × LeavesNoneOut rules rows claim × IsKept rules rows claim claim.holds
+IsJudgement rules rows claim judged.Holds =
+    TakesAll rules claim × IsKept rules rows claim claim.holds
 IsJudgement rules rows claim (judged.Fails d) = IsBroken rules rows claim claim.holds d
 IsJudgement rules rows claim (judged.NoneMay direction) =
     IsMissing rules rows claim claim.holds direction
 IsJudgement rules rows claim (judged.Unnamed user) = IsUnnamed rows claim user
-IsJudgement rules rows claim (judged.Unasked user) = IsUnasked rules claim.whom user
 IsJudgement rules rows claim (judged.Refused direction) = IsRefused rules claim direction
-IsJudgement rules rows claim (judged.LeavesOut user) =
-    (is_left_out rules (row_views rows) claim (string_bytes user) ≡ true)
-    × IsKept rules rows claim claim.holds
 
 -- ---- by classes
 -- the clients of the class are among these
@@ -229,9 +178,7 @@ IsNone rules allows rows claim judged.Holds = KeepsTo rules (not allows) rows cl
 IsNone rules allows rows claim (judged.Fails d) = IsAgainst rules allows rows claim d
 IsNone rules allows rows claim (judged.NoneMay direction) = ⊥
 IsNone rules allows rows claim (judged.Unnamed user) = ⊥
-IsNone rules allows rows claim (judged.Unasked user) = ⊥
 IsNone rules allows rows claim (judged.Refused direction) = ⊥
-IsNone rules allows rows claim (judged.LeavesOut user) = ⊥
 
 -- in each direction one is meant, or in one of them none is
 abbrev pub IsOne : Rules → List Row → Claim → Judgement → Type 0
@@ -241,13 +188,4 @@ IsOne rules rows claim (judged.Fails d) = ⊥
 IsOne rules rows claim (judged.NoneMay direction) =
     (grants direction claim.access ≡ true) × AllowsNone rules rows claim direction
 IsOne rules rows claim (judged.Unnamed user) = ⊥
-IsOne rules rows claim (judged.Unasked user) = ⊥
 IsOne rules rows claim (judged.Refused direction) = ⊥
-IsOne rules rows claim (judged.LeavesOut user) = ⊥
-
--- what is said where nobody is left out, and nothing is refused
-abbrev pub IsAsked : Rules → List Row → Claim → Judgement → Type 0
-IsAsked rules rows claim judged.Holds =
-    (is_asked_about rules claim.whom ≡ true) × IsKept rules rows claim claim.holds
-IsAsked rules rows claim (judged.LeavesOut user) = ⊥
-IsAsked rules rows claim judgement = IsJudgement rules rows claim judgement

@@ -12,7 +12,7 @@ use Rattle.mq_differences.specs.Classes.{can_be_user}
 use Rattle.mq_differences.specs.Differences.{same_class, same_direction}
 use Rattle.mq_differences.specs.declared.class.Class.{Class}
 use Rattle.mq_differences.specs.declared.difference.Difference.{Difference}
-use Rattle.mq_who.specs.Who.{are_asked, is_asked, is_case, is_member}
+use Rattle.mq_who.specs.Who.{is_asked, is_case, is_left_out, is_member}
 use Rattle.mq_who.specs.declared.extent.Extent.{Extent}
 use Rattle.mq_who.specs.declared.extent.Extent.TheVariants.{Every, Part, Nothing, Unmatched}
 
@@ -29,28 +29,30 @@ pub record HasCase (rules : Rules) (allows : Bool) (rows : List Row) (wanted : L
   pub member : is_member (row_views rows) user class ≡ true
   pub case : is_case rules allows (row_views rows) wanted client user topic direction ≡ true
 
--- the list allows each client of the class that is asked about each topic that the filter matches for
--- it, or none; of what is to be allowed, the topics that the broker refuses by itself aren't asked about
+-- the list allows each client of the class each topic that the filter matches for it, or none; of
+-- what is to be allowed, nothing is asked about topics that the broker refuses by itself, nor about
+-- clients that are left out
 abbrev pub AllAre : Rules → (allows : Bool) → List Row → (wanted : List ℕ) → Class → Direction
     → Type 0
 AllAre rules allows rows wanted class direction = (client topic : List ℕ)
     (user : Option (List ℕ)) → can_be_id client ≡ true → can_be_user user ≡ true
-    → are_asked rules client user ≡ true → is_name topic ≡ true
+    → (allows && is_left_out rules (row_views rows) client user) ≡ false → is_name topic ≡ true
     → (allows && refuses rules direction topic) ≡ false
     → is_member (row_views rows) user class ≡ true → is_asked rules wanted client user topic ≡ true
     → allow_by rules (row_views rows) client user topic direction ≡ allows
 
--- the filter matches no topic for the clients of the class that are asked about, of those that the broker
--- doesn't refuse by itself
+-- the filter matches no topic for the clients of the class that aren't left out, of those that the
+-- broker doesn't refuse by itself
 abbrev pub NoneMatched : Rules → List Row → (wanted : List ℕ) → Class → Direction → Type 0
 NoneMatched rules rows wanted class direction = (client topic : List ℕ) (user : Option (List ℕ))
-    → can_be_id client ≡ true → can_be_user user ≡ true → are_asked rules client user ≡ true
+    → can_be_id client ≡ true → can_be_user user ≡ true
+    → is_left_out rules (row_views rows) client user ≡ false
     → is_name topic ≡ true → refuses rules direction topic ≡ false
     → is_member (row_views rows) user class ≡ true
     → is_asked rules wanted client user topic ≡ false
 
--- of the topics that the filter matches for the clients of the class: all, of which there is one; one
--- and not another; none, though there is one; or there is none
+-- of the topics that the filter matches for the clients of the class: all, of which there is one;
+-- one and not another; none, though there is one; or there is none
 abbrev pub IsExtent : Rules → List Row → (wanted : List ℕ) → Class → Direction → Extent → Type 0
 IsExtent rules rows wanted class direction Every =
     HasCase rules true rows wanted class direction × AllAre rules true rows wanted class direction

@@ -11,6 +11,7 @@ use Rattle.mq_witness.specs.Limits.{has_short_levels, long_line, marked_line}
 use Rattle.mq_differences.specs.Steps.{enough_steps}
 use Rattle.mq_differences.specs.declared.fault.ComparisonFault.{ComparisonFault}
 use Rattle.mq_differences.specs.declared.fault.ComparisonFault.TheVariants as comparison
+use Rattle.mq_who.specs.Made.{most_made}
 use Rattle.mq_who.specs.declared.fault.WhoFault.{WhoFault}
 use Rattle.mq_who.specs.declared.fault.WhoFault.TheVariants as who
 
@@ -25,7 +26,8 @@ IsWhoFault rules rows wanted steps who.FilterMark =
 IsWhoFault rules rows wanted steps (who.Line line) = long_line rows ≡ Some line
 IsWhoFault rules rows wanted steps (who.Mark line) = marked_line rules rows ≡ Some line
 IsWhoFault rules rows wanted steps (who.GaveUp line others) =
-    Contains (line_views rows ++ (0 ∷ [])) line × (steps < enough_steps (length rows + 1))
+    Contains (line_views rows ++ (0 ∷ [])) line
+    × (steps < enough_steps (length rows + most_made rules (length rows)))
 
 -- what is said of a comparison of the list with one that was made of the filter
 abbrev pub fault_of : ComparisonFault → WhoFault

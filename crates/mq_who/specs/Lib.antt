@@ -3,4 +3,3 @@ pub mod Faults
 pub mod Made
 pub mod Extents
 pub mod Claims
-pub mod Unasked

@@ -19,9 +19,7 @@ pub enum Extent {
     Part,
     /// None of them may any topic.
     Nothing,
-    /// The filter matches no topic for them: as one with `%u` for clients without a user name. By
-    /// mosquitto's rules so it is for those of a user name with `/`, `+` or `#`, of which nothing
-    /// is asked.
+    /// The filter matches no topic for them: as one with `%u` for clients without a user name.
     Unmatched,
 }
 

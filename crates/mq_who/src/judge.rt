@@ -1,6 +1,5 @@
 //! Whether a list keeps to what is expected of it.
 ghost use Rattle.std.specs.Prelude.{◌≡◌, ◌&&◌, Bool, List, IfOk, IfErr, IfSome, IfNone, Contains, true, false, find, map, not};
-ghost use Rattle.std.specs.Prelude.{string_bytes};
 ghost use Rattle.std.specs.List.{list_all, list_any};
 ghost use Rattle.mq_acl.specs.Access.{grants};
 ghost use Rattle.mq_acl.specs.Views.{access_view, owner_view, row_view, row_views};
@@ -10,29 +9,26 @@ ghost use Rattle.mq_witness.specs.Limits.{has_short_levels};
 ghost use Rattle.mq_witness.specs.Rows.{is_name_of, is_user_of};
 ghost use Rattle.mq_expect.specs.Expectations.{User, excepted};
 ghost use Rattle.mq_expect.specs.Views.{claim_view, whom_view};
-ghost use Rattle.mq_who.specs.Claims.{AreOthers, IsAsked, IsJudgement, IsNone, IsOne, IsUnasked};
-ghost use Rattle.mq_who.specs.Claims.{IsRefused, LeavesNoneOut, TakesAll, has_class, is_excepted, is_left_out};
-ghost use Rattle.mq_who.specs.Claims.{is_every, is_named_one, is_of_all, wants_refused};
-ghost use Rattle.mq_who.specs.Unasked.{has_text};
-ghost use Rattle.mq_who.specs.Claims.{is_asked_about, is_known, is_meant, is_meant_in};
+ghost use Rattle.mq_who.specs.Claims.{AreOthers, IsJudgement, IsNone, IsOne, IsRefused, TakesAll};
+ghost use Rattle.mq_who.specs.Claims.{has_class, is_every, is_known, is_meant, is_meant_in};
+ghost use Rattle.mq_who.specs.Claims.{wants_refused};
 ghost use Rattle.mq_who.specs.Faults.{IsWhoFault};
 ghost use Rattle.mq_who.specs.Who.{IsListing};
 
 use crate::fault::WhoFault;
-use crate::level::can_be_level;
-use crate::permissions::{has_short_levels, listed};
-use crate::unasked::unasked_users;
+use crate::permissions::listed;
 use mq_acl::{Direction, Owner, Row, Rules, grants, refuses_filter};
 use mq_differences::{Class, Difference, same_direction};
 use mq_expect::{Claim, Holds, Whom};
 use mq_topic::LevelText;
-use std::alloc::{AllocError, Global};
+use mq_witness::has_short_levels;
+use std::alloc::Global;
 
 /// Whether a list keeps to what is expected of it.
 #[derive(Drop)]
 pub enum Judgement<'p> {
-    /// It does, for each client and topic that is asked about: by mosquitto's rules clients whose id or user name holds
-    /// `/`, `+` or `#` aren't.
+    /// It does, for each client and topic that is asked about: by mosquitto's rules some clients whose id or user name
+    /// holds `+` or `#` aren't (`who_may`).
     Holds,
     /// It doesn't for this client and topic. `old_reason` is the line that decides.
     Fails(Difference),
@@ -40,15 +36,9 @@ pub enum Judgement<'p> {
     NoneMay(Direction),
     /// No line of the list names this user.
     Unnamed(&'p str),
-    /// By mosquitto's rules nothing is asked about this user, whose name holds `/`, `+` or `#`.
-    Unasked(&'p str),
     /// Each client is to be allowed topics that the broker refuses to let clients read or write in
     /// this direction, whatever the list says (`mq_acl::refuses_filter`).
     Refused(Direction),
-    /// It does, for each client and topic that is asked about. But the claim means this user too,
-    /// whom a line of the list names, and by mosquitto's rules nothing is asked about it, since its
-    /// name holds `/`, `+` or `#`.
-    LeavesOut(String),
 }
 
 fn is_name_of(name: &str, owner: &Owner) -> bool
@@ -131,17 +121,6 @@ fn refused_direction(rules: Rules, claim: &Claim) -> Option<Direction>
     None
 }
 
-// The user that by these rules nothing is asked about, if it is one.
-fn unasked<'p>(rules: Rules, whom: Whom<'p>) -> Option<&'p str>
-    ensures none { IfNone result (is_asked_about rules (whom_view whom.entry) ≡ true) }
-    ensures some { IfSome result (IsUnasked rules (whom_view whom.entry)) }
-{
-    match (rules, whom) {
-        (Rules::Mosquitto, Whom::User(name)) if !can_be_level(name) => Some(name),
-        _ => None,
-    }
-}
-
 fn has_class(class: &Class, whom: &Whom) -> bool
     ensures { result ≡ has_class class.now (whom_view whom.now) }
 {
@@ -221,8 +200,8 @@ fn at_least_one<'p>(granted: &[Difference], claim: &Claim, others: &[Whom]) -> J
     Judgement::Holds
 }
 
-// What is said in place of an answer, if the list doesn't name a user, nothing is asked about one, or
-// the broker refuses what is claimed.
+// What is said in place of an answer, if the list doesn't name a user, or the broker refuses what is
+// claimed.
 fn unanswered<'p>(
     rules: Rules,
     rows: &[Row],
@@ -231,7 +210,6 @@ fn unanswered<'p>(
 ) -> Option<Judgement<'p>>
     ensures known { IfNone result (excepted (claim_view claim.now).except ≡ map whom_view others.now
         → AreOthers rows.now (claim_view claim.now) others.now) }
-    ensures asked { IfNone result (is_asked_about rules (whom_view claim.now.whom) ≡ true) }
     ensures taken { IfNone result (TakesAll rules (claim_view claim.now)) }
     ensures some { excepted (claim_view claim.now).except ≡ map whom_view others.now
         → IfSome result (IsJudgement rules rows.now (claim_view claim.now)) }
@@ -241,9 +219,6 @@ fn unanswered<'p>(
     }
     if let Some(name) = first_unnamed(rows, others) {
         return Some(Judgement::Unnamed(name));
-    }
-    if let Some(name) = unasked(rules, claim.whom) {
-        return Some(Judgement::Unasked(name));
     }
     let direction = refused_direction(rules, claim)?;
     Some(Judgement::Refused(direction))
@@ -260,8 +235,8 @@ fn answer<'p>(
 ) -> Result<Judgement<'p>, WhoFault>
     requires short { has_short_levels claim.now.filter ≡ true }
     requires others { AreOthers rows.now (claim_view claim.now) others.now }
-    requires asked { is_asked_about rules (whom_view claim.now.whom) ≡ true }
-    ensures judgement { IfOk result (IsAsked rules rows.now (claim_view claim.now)) }
+    requires taken { TakesAll rules (claim_view claim.now) }
+    ensures judgement { IfOk result (IsJudgement rules rows.now (claim_view claim.now)) }
     ensures fault { IfErr result (IsWhoFault rules rows.now claim.now.filter steps) }
 {
     let wanted = &claim.filter;
@@ -281,79 +256,12 @@ fn answer<'p>(
     }
 }
 
-// Whether it is so of everybody only where it is of each user whom a line names.
-fn is_of_all(claim: &Claim) -> bool
-    ensures { result ≡ is_of_all (claim_view claim.now) }
-{
-    match (claim.whom, claim.holds) {
-        (Whom::Anyone, Holds::Every) => true,
-        (Whom::Anyone, Holds::Never) => true,
-        _ => false,
-    }
-}
-
-// Whether the user with this name, whom a line names, is one of these.
-fn is_named_one(name: &str, whom: &Whom) -> bool
-    ensures { result ≡ is_named_one name.now (whom_view whom.now) }
-{
-    match whom {
-        Whom::Anyone => true,
-        Whom::User(other) => name == *other,
-        _ => false,
-    }
-}
-
-fn is_excepted(name: &str, others: &[Whom]) -> bool
-    ensures { result ≡ is_excepted name.now others.now }
-{
-    others.iter().any(|whom| is_named_one(name, whom))
-}
-
-// The first of the users that isn't excepted.
-fn first_meant<'u>(users: &[&'u str], others: &[Whom]) -> Option<&'u str>
-    ensures none { IfNone result (list_all (λ u. is_excepted u.now others.now) users.now ≡ true) }
-    ensures some { IfSome result (λ user. (has_text users.now user.now ≡ true)
-        × (is_excepted user.now others.now ≡ false)) }
-{
-    for name in users {
-        if !is_excepted(*name, others) {
-            return Some(*name);
-        }
-    }
-    None
-}
-
-// A user whom the claim means and a line names, and about whom nothing is asked.
-fn left_out(
-    alloc: Global,
-    rules: Rules,
-    rows: &[Row],
-    claim: &Claim,
-    others: &[Whom],
-) -> Result<Option<String>, AllocError>
-    requires { excepted (claim_view claim.now).except ≡ map whom_view others.now }
-    ensures none { IfOk result (λ user. IfNone user (LeavesNoneOut rules rows.now
-        (claim_view claim.now))) }
-    ensures some { IfOk result (λ user. IfSome user (λ name. is_left_out rules (row_views rows.now)
-        (claim_view claim.now) (string_bytes name) ≡ true)) }
-{
-    if !is_of_all(claim) {
-        return Ok(None);
-    }
-    let users = unasked_users(alloc, rules, rows)?;
-    match first_meant(&users, others) {
-        Some(name) => Ok(Some(String::from_str(alloc, name)?)),
-        None => Ok(None),
-    }
-}
-
-/// Whether by these rules the list keeps to the claim. By mosquitto's rules a claim isn't about clients whose id or user
-/// name holds `/`, `+` or `#`; of one about such a user alone it is said that nothing is asked, and
-/// of one that means such a user whom a line names, that it holds but for that user. Of one that each
-/// client may write topics that begin with `$SYS`, or any that begin with `$share`, it is said that
-/// the broker refuses them.
+/// Whether by these rules the list keeps to the claim. By mosquitto's rules what is to be allowed isn't asked about
+/// some clients whose id or user name holds `+` or `#`, and a filter with `%c` or `%u` is asked about none of them
+/// (`who_may`). Of a claim that each client may write topics that begin with `$SYS`, or any that begin with `$share`,
+/// it is said that the broker refuses them.
 ///
-/// So many steps are given to a comparison of the list with one of one row. Where they don't
+/// So many steps are given to a comparison of the list with one that is made of the filter. Where they don't
 /// suffice the question is given up.
 pub fn judge_claim<'p>(
     alloc: Global,
@@ -372,12 +280,5 @@ pub fn judge_claim<'p>(
     if !has_short_levels(claim.filter.text()) {
         return Err(WhoFault::Filter);
     }
-    let judgement = answer(alloc, rules, rows, claim, &others, steps)?;
-    if !matches!(judgement, Judgement::Holds) {
-        return Ok(judgement);
-    }
-    match left_out(alloc, rules, rows, claim, &others)? {
-        Some(user) => Ok(Judgement::LeavesOut(user)),
-        None => Ok(Judgement::Holds),
-    }
+    answer(alloc, rules, rows, claim, &others, steps)
 }

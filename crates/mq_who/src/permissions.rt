@@ -1,8 +1,7 @@
 //! Who may.
-ghost use Rattle.std.specs.Prelude.{◌≡◌, ℕ, Bool, List, IfOk, IfErr, true, false};
-ghost use Rattle.std.specs.List.{filter, list_all};
-ghost use Rattle.mq_topic.specs.Levels.{levels};
-ghost use Rattle.mq_witness.specs.Limits.{has_short_levels};
+ghost use Rattle.std.specs.Prelude.{◌≡◌, ℕ, Bool, List, IfOk, IfErr, None, true, false};
+ghost use Rattle.std.specs.List.{filter};
+ghost use Rattle.mq_witness.specs.Limits.{has_short_levels, long_line};
 ghost use Rattle.mq_differences.specs.declared.difference.Difference.{Difference};
 ghost use Rattle.mq_who.specs.Faults.{IsWhoFault};
 ghost use Rattle.mq_who.specs.Made.{IsMade, is_decided};
@@ -13,6 +12,7 @@ use crate::made::made;
 use mq_acl::{Row, Rules};
 use mq_differences::{Difference, Reason, compare};
 use mq_topic::{LevelText, TopicFilter};
+use mq_witness::{has_short_levels, long_line};
 use std::alloc::{AllocError, Global};
 
 /// What clients may and may not read and write of the topics that a filter matches. Of what the
@@ -33,12 +33,6 @@ impl Drop for Permissions {
             refused: _,
         } = self;
     }
-}
-
-pub(crate) fn has_short_levels(text: &str) -> bool
-    ensures { result ≡ has_short_levels text.now }
-{
-    text.split('/').all(|level| level.len() <= 300)
 }
 
 // Whether a line decides.
@@ -68,10 +62,11 @@ fn changes(
     steps: u64,
 ) -> Result<Vec<Difference>, WhoFault>
     ensures listing { IfOk result (λ all. (allows : Bool) (wanted : List ℕ)
-        → IsMade allows wanted made.now → IsListing rules allows rows.now wanted all.items) }
+        → IsMade rules allows rows.now wanted made.now
+        → IsListing rules allows rows.now wanted all.items) }
     ensures fault { IfErr result (λ fault. (allows : Bool) (wanted : List ℕ)
-        → IsMade allows wanted made.now → has_short_levels wanted ≡ true
-        → IsWhoFault rules rows.now wanted steps fault) }
+        → IsMade rules allows rows.now wanted made.now → long_line rows.now ≡ None
+        → has_short_levels wanted ≡ true → IsWhoFault rules rows.now wanted steps fault) }
 {
     match compare(alloc, rules, rows, made, steps) {
         Ok(differences) => Ok(decided(alloc, differences)?),
@@ -92,17 +87,24 @@ pub(crate) fn listed(
     ensures listing { IfOk result (λ all. IsListing rules allows rows.now wanted.now all.items) }
     ensures fault { IfErr result (IsWhoFault rules rows.now wanted.now steps) }
 {
-    let made = made(alloc, allows, wanted)?;
+    if let Some(line) = long_line(rows) {
+        return Err(WhoFault::Line(line));
+    }
+    let made = made(alloc, rules, allows, rows, wanted)?;
     changes(alloc, rules, rows, &made, steps)
 }
 
 /// Who may, by these rules, read or write the topics that a filter matches, and who may not: the
 /// clients without a user name, those of each user name that the list names, and those of all
-/// others. `%c` and `%u`, as levels of the filter, are the client's own id and user name. By
-/// mosquitto's rules it is not about clients whose id or user name holds `/`, `+` or `#`.
+/// others. `%c` and `%u`, as levels of the filter, are the client's own id and user name.
 ///
-/// So many steps are given to each of two comparisons of the list with one of one row. Where they
-/// don't suffice the question is given up, so that an answer is always the whole one.
+/// Who may is asked of all clients. By mosquitto's rules `pattern` lines are passed over for clients whose id or user
+/// name holds `+` or `#`, so that few lists allow them what they allow others. So who may not isn't asked of those with
+/// such an id, unless their user name is such a one that a line names; nor of those with such a user name that no line
+/// names. A filter with `%c` or `%u` is asked of none of these.
+///
+/// So many steps are given to each of two comparisons of the list with one that is made of the filter. Where they don't
+/// suffice the question is given up, so that an answer is always the whole one.
 pub fn who_may(
     alloc: Global,
     rules: Rules,

@@ -24,8 +24,8 @@ use Rattle.mq_witness.specs.Names.{are_begun, has_front, is_one_of, is_right}
 use Rattle.mq_witness.specs.Ready.{AreReady, IsReady, all_listed, clients_fit, is_listed, stand_in}
 use Rattle.mq_witness.specs.Roots.{alike, marks_of, same, NoneConcerned}
 use Rattle.mq_witness.specs.Texts.{level_of}
-use Rattle.mq_witness.specs.declared.clients.Clients.{Clients}
-use Rattle.mq_witness.specs.declared.clients.Clients.TheVariants.{Anonymous, Named, Others}
+use Rattle.mq_shapes.specs.declared.clients.Clients.{Clients}
+use Rattle.mq_shapes.specs.declared.clients.Clients.TheVariants.{Anonymous, Named, Others}
 use Rattle.mq_witness.specs.declared.fresh.BothFresh.{BothFresh}
 use Rattle.mq_witness.specs.declared.fresh.Fresh.{Fresh}
 use Rattle.mq_witness.specs.declared.literals.Literals.{Literals}

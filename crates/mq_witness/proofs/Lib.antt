@@ -17,5 +17,7 @@ pub mod ReadyLemmas
 pub mod SwapLemmas
 pub mod ShowLemmas
 pub mod TopicLemmas
-pub mod MarkLemmas
 pub mod RuledLemmas
+pub mod RuledSearchLemmas
+pub mod LeveledLemmas
+pub mod RuledReady

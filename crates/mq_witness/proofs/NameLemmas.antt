@@ -32,7 +32,7 @@ levels_first : (l more : List ℕ) → contains_byte 47 l ≡ false
 levels_first [] more h = refl
 levels_first (x ∷ xs) more h = grind (arith, levels_first xs more, or_parts)
 
-abbrev slashed : List (List ℕ) → List ℕ
+abbrev pub slashed : List (List ℕ) → List ℕ
 slashed ls = flat_map (λ l. 47 ∷ l) ls
 
 -- what `join` makes of them
@@ -70,14 +70,14 @@ pub record IsLevel (l : List ℕ) : Type 0 where
   pub slash : not (contains_byte 47 l) ≡ true
   pub short : length l ≤ 321
 
-level_is : (l : List ℕ) → is_name_level l ≡ true → IsLevel l
+pub level_is : (l : List ℕ) → is_name_level l ≡ true → IsLevel l
 level_is l h = grind (arith, leb-true)
 
 -- a level has no `/`
 pub no_slash : (l : List ℕ) → can_be_level l ≡ true → not (contains_byte 47 l) ≡ true
 no_slash l h = (and_parts _ _ h).1
 
-slashed_short : (ls : List (List ℕ)) → list_all is_name_level ls ≡ true
+pub slashed_short : (ls : List (List ℕ)) → list_all is_name_level ls ≡ true
     → length (slashed ls) ≤ 322 * length ls
 slashed_short [] h = omega arith
 slashed_short (l ∷ ls) h =

@@ -21,8 +21,8 @@ use Rattle.mq_witness.specs.Ready.{CanAnswer, CanBeAsked, IsReady, all_listed, c
 use Rattle.mq_witness.specs.Ready.{is_listed}
 use Rattle.mq_witness.specs.Roots.{rows_fit}
 use Rattle.mq_witness.specs.Rows.{is_user_of, rows_name}
-use Rattle.mq_witness.specs.declared.clients.Clients.{Clients}
-use Rattle.mq_witness.specs.declared.clients.Clients.TheVariants.{Anonymous, Named, Others}
+use Rattle.mq_shapes.specs.declared.clients.Clients.{Clients}
+use Rattle.mq_shapes.specs.declared.clients.Clients.TheVariants.{Anonymous, Named, Others}
 use Rattle.mq_witness.specs.declared.fresh.Fresh.{Fresh}
 use Rattle.mq_witness.specs.declared.literals.Literals.{Literals}
 use Rattle.mq_witness.specs.declared.texts.FreshTexts.{FreshTexts}

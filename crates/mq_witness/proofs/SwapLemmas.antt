@@ -31,8 +31,8 @@ use Rattle.mq_witness.specs.Ready.{CanAnswer}
 use Rattle.mq_witness.specs.Roots.{rows_fit}
 use Rattle.mq_witness.specs.Rows.{is_user_of, row_names, rows_name}
 use Rattle.mq_witness.specs.Swaps.{is_apart, swap, swap_name, swap_user}
-use Rattle.mq_witness.specs.declared.clients.Clients.{Clients}
-use Rattle.mq_witness.specs.declared.clients.Clients.TheVariants.{Anonymous, Named, Others}
+use Rattle.mq_shapes.specs.declared.clients.Clients.{Clients}
+use Rattle.mq_shapes.specs.declared.clients.Clients.TheVariants.{Anonymous, Named, Others}
 use Rattle.mq_witness.specs.declared.fresh.Fresh.{Fresh}
 use Rattle.mq_witness.specs.declared.literals.Literals.{Literals}
 use Rattle.mq_witness.specs.declared.texts.FreshTexts.{FreshTexts}

@@ -16,7 +16,7 @@ use Rattle.mq_witness.specs.Texts.{level_of}
 use Rattle.mq_witness.specs.Tried.{is_tried_client, is_tried_user}
 use Rattle.mq_witness.specs.Literals.{is_named}
 use Rattle.mq_witness.specs.Names.{are_begun, has_front, is_one_of, is_right, names_fit, start_at}
-use Rattle.mq_witness.specs.declared.clients.Clients.{Clients}
+use Rattle.mq_shapes.specs.declared.clients.Clients.{Clients}
 use Rattle.mq_witness.specs.declared.fresh.BothFresh.{BothFresh}
 use Rattle.mq_witness.specs.declared.literals.Literals.{Literals}
 use Rattle.mq_witness.specs.declared.names.Names.{Names}

@@ -19,16 +19,19 @@ use Rattle.mq_witness.specs.Names.{is_one_of}
 use Rattle.mq_witness.specs.Literals.{is_literal_in}
 use Rattle.mq_witness.specs.Rows.{is_user_of, rows_name}
 use Rattle.mq_witness.specs.Swaps.{swap, swap_user, swap_name}
-use Rattle.mq_witness.specs.declared.clients.Clients.{Clients}
-use Rattle.mq_witness.specs.declared.clients.Clients.TheVariants.{Anonymous, Named, Others}
+use Rattle.mq_shapes.specs.declared.clients.Clients.{Clients}
+use Rattle.mq_shapes.specs.declared.clients.Clients.TheVariants.{Anonymous, Named, Others}
 use Rattle.mq_witness.specs.declared.names.Names.{Names}
 use Rattle.mq_witness.specs.declared.witness.Witness.{Witness}
 
--- the rows of all lists, their rules, and the texts that stand for those that no row names
+-- the rows of all lists, their rules, and the texts that stand for those that no row names; by mosquitto's rules these are
+-- the levels that begin with one of two texts
 pub record AskedRows : Type 0 where
   pub rules : Rules
   pub rows : List AclRow
   pub placeholders : List (List ℕ)
+  pub plain : List ℕ
+  pub dollar : List ℕ
 
 abbrev pub is_placeholder : List ℕ → AskedRows → Bool
 is_placeholder text asked = list_any (bytes_eq text) asked.placeholders

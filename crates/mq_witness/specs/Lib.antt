@@ -16,3 +16,6 @@ pub mod Ready
 pub mod Answers
 pub mod Overlaps
 pub mod Topics
+pub mod RuledSearch
+pub mod Leveled
+pub mod RuledTexts

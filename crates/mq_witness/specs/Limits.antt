@@ -12,21 +12,13 @@ use Rattle.mq_acl.specs.declared.rules.Rules.{Rules}
 use Rattle.mq_acl.specs.declared.rules.Rules.TheVariants.{Own, Mosquitto}
 use Rattle.mq_cover.specs.Names.{can_be_level}
 use Rattle.mq_cover.specs.Remainders.{fits}
-use Rattle.mq_witness.specs.Ruled.{has_whole_marks}
+pub use Rattle.mq_shapes.specs.Prefix.{is_short, is_usable as usable, short_owner as short_who}
+use Rattle.mq_shapes.specs.Found.{has_whole_marks}
 use Rattle.mq_witness.specs.declared.fault.ListFault.{ListFault}
 use Rattle.mq_witness.specs.declared.fault.ListFault.TheVariants.{Memory, Line, Mark}
 
--- no longer than 300 bytes
-abbrev pub is_short : List ℕ → Bool
-is_short text = nat_le (length text) 300
-
 abbrev pub has_short_levels : List ℕ → Bool
 has_short_levels text = list_all is_short (levels text)
-
-abbrev pub short_who : Who → Bool
-short_who Anonymous = true
-short_who (Named name) = is_short name
-short_who Everyone = true
 
 -- no level of the filter is longer than 300 bytes, nor is the user name
 abbrev pub is_short_row : AclRow → Bool
@@ -38,10 +30,6 @@ long_line rows = option_map (λ row. row.line) (find (λ row. not (is_short_row 
 
 abbrev pub is_short_level : List ℕ → Bool
 is_short_level level = can_be_level level && is_short level
-
--- the same of a row with a valid filter: but for wildcards each level can be one of a name
-abbrev pub usable : AclRow → Bool
-usable row = fits is_short_level (levels row.filter) && short_who row.who
 
 -- the list at this place has this line as its first that doesn't keep to it
 pub record IsLongLine (lists : List (Bor (List Row))) (place line : ℕ) : Type 0 where

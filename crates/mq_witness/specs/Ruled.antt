@@ -12,11 +12,17 @@ use Rattle.mq_acl.specs.declared.rules.Rules.{Rules}
 use Rattle.mq_acl.specs.declared.rules.Rules.TheVariants.{Own, Mosquitto}
 use Rattle.mq_cover.specs.Names.{can_be_level}
 use Rattle.mq_cover.specs.Remainders.{mark_passes}
+pub use Rattle.mq_shapes.specs.Found.{has_whole_marks}
+use Rattle.mq_shapes.specs.Swaps.{swap_levels}
+use Rattle.mq_shapes.specs.Swaps as leveled
+use Rattle.mq_witness.specs.Leveled.{AreLevelsKnown, StandsForLevel, is_fresh, names_level}
+use Rattle.mq_witness.specs.Rows.{rows_name}
+use Rattle.mq_witness.specs.Asked.{AreKnown, is_placeholder}
 use Rattle.mq_witness.specs.Asked.{AskedRows, StandsFor, is_client_of, user_view}
 use Rattle.mq_witness.specs.Clients.{can_be_id}
 use Rattle.mq_witness.specs.Names.{refused_of}
 use Rattle.mq_witness.specs.Swaps.{swap, swap_name, swap_user}
-use Rattle.mq_witness.specs.declared.clients.Clients.{Clients}
+use Rattle.mq_shapes.specs.declared.clients.Clients.{Clients}
 use Rattle.mq_witness.specs.declared.topics.Topics.{Topics}
 use Rattle.mq_witness.specs.declared.witness.Witness.{Witness}
 
@@ -30,22 +36,11 @@ decides_by rules client user name must cover = list_all (concerns_by rules clien
 abbrev pub has_patterns : List AclRow → Bool
 has_patterns rows = list_any (λ row. is_everyones row.who) rows
 
--- by mosquitto's rules a mark stands for several levels where an id has a slash, and `pattern` rows are passed over where
--- it has a wildcard: where there are such rows no question is about these ids
-abbrev pub is_asked_of : Rules → List AclRow → List ℕ → Bool
-is_asked_of Own rows id = true
-is_asked_of Mosquitto rows id = not (has_patterns rows) || can_be_level id
-
-abbrev pub are_asked_of : Rules → List AclRow → List ℕ → Option (List ℕ) → Bool
-are_asked_of rules rows client user =
-    is_asked_of rules rows client && mark_passes (is_asked_of rules rows) user
-
--- the client and its user name, if it has one, are such, and it is among those that are asked about
+-- the client is one that a broker can have, among those that are asked about
 pub record IsAskedOf (asked : AskedRows) (clients : Clients) (client : List ℕ)
     (user : Option (List ℕ)) : Type 0 where
   pub client_fits : can_be_id client ≡ true
   pub user_fits : is_client_of asked clients user ≡ true
-  pub are_asked : are_asked_of asked.rules asked.rows client user ≡ true
 
 -- of no client that is asked about, each first row concerns one of these topics that begins with `$`, or doesn't, and no
 -- other row does
@@ -69,21 +64,51 @@ abbrev pub ShowsBy : Topics → AskedRows → Clients → (must cover : List Acl
 ShowsBy topics asked clients must cover w =
     IsShownBy topics asked clients must cover (string_bytes w.client) (user_view w.user) w.name
 
--- what is shown is shown too with any text in the place of one that stands for it, where the topic isn't too long then,
--- and is one of these
-abbrev pub StandsBy : Topics → AskedRows → Clients → (must cover : List AclRow) → Witness → Type 0
-StandsBy topics asked clients must cover w = (text other : List ℕ) → StandsFor asked text other
+-- ---- texts that stand for others
+-- by mosquitto's rules levels do
+abbrev pub is_stand_in_by : Rules → AskedRows → List ℕ → Bool
+is_stand_in_by Own asked text = is_placeholder text asked
+is_stand_in_by Mosquitto asked text = is_fresh asked text
+
+abbrev pub is_stand_in : AskedRows → List ℕ → Bool
+is_stand_in asked text = is_stand_in_by asked.rules asked text
+
+-- some row names the text, or by mosquitto's rules the level
+abbrev pub names_by : Rules → List ℕ → List AclRow → Bool
+names_by Own text rows = rows_name text rows
+names_by Mosquitto text rows = names_level text rows
+
+-- what is shown is shown too with any text in the place of one that stands for it, where no text is too long then, and the
+-- topic is one of these; by mosquitto's rules level by level
+abbrev pub StandBy : Rules → Topics → AskedRows → Clients → (must cover : List AclRow) → Witness
+    → Type 0
+StandBy Own topics asked clients must cover w = (text other : List ℕ) → StandsFor asked text other
     → is_name (swap_name text other w.name) ≡ true
     → refused_of asked.rules topics (swap_name text other w.name) ≡ false
     → IsShownBy topics asked clients must cover (swap text other (string_bytes w.client))
     (swap_user text other (user_view w.user)) (swap_name text other w.name)
+StandBy Mosquitto topics asked clients must cover w = (level other : List ℕ)
+    → StandsForLevel asked level other
+    → can_be_id (swap_levels level other (string_bytes w.client)) ≡ true
+    → mark_passes can_be_id (leveled.swap_user level other (user_view w.user)) ≡ true
+    → is_name (swap_levels level other w.name) ≡ true
+    → refused_of asked.rules topics (swap_levels level other w.name) ≡ false
+    → IsShownBy topics asked clients must cover (swap_levels level other (string_bytes w.client))
+    (leveled.swap_user level other (user_view w.user)) (swap_levels level other w.name)
+
+abbrev pub StandsBy : Topics → AskedRows → Clients → (must cover : List AclRow) → Witness → Type 0
+StandsBy topics asked clients must cover w = StandBy asked.rules topics asked clients must cover w
+
+-- each text of it is named by a row, or stands for others; by mosquitto's rules each level
+abbrev pub AreKnownBy : Rules → AskedRows → (client : List ℕ) → Option (List ℕ)
+    → (name : List ℕ) → Type 0
+AreKnownBy Own asked client user name = AreKnown asked client user name
+AreKnownBy Mosquitto asked client user name = AreLevelsKnown asked client user name
+
+abbrev pub KnowsBy : AskedRows → Witness → Type 0
+KnowsBy asked w = AreKnownBy asked.rules asked (string_bytes w.client) (user_view w.user) w.name
 
 -- ---- the limit
--- each mark of a `pattern` row is a whole level
-abbrev pub has_whole_marks : AclRow → Bool
-has_whole_marks row =
-    not (is_everyones row.who) || list_all is_pattern_level (levels row.filter)
-
 abbrev pub are_whole : Rules → List AclRow → Bool
 are_whole Own rows = true
 are_whole Mosquitto rows = list_all has_whole_marks rows

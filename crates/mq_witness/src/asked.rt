@@ -9,7 +9,9 @@ ghost use Rattle.mq_acl.specs.Access.{begins_with_dollar};
 ghost use Rattle.mq_acl.specs.declared.rules.Rules.TheVariants as rules;
 ghost use Rattle.mq_cover.specs.Names.{can_be_level};
 ghost use Rattle.mq_witness.specs.Clients.{name_passes};
-ghost use Rattle.mq_witness.specs.Ruled.{FindsNoneBy, ShowsBy, StandsBy, are_whole, has_patterns};
+ghost use Rattle.mq_witness.specs.Leveled.{IsHit, LevelsKnown, LevelsStand, NamesFindNone};
+ghost use Rattle.mq_witness.specs.Ruled.{FindsNoneBy, KnowsBy, ShowsBy, StandsBy, are_whole};
+ghost use Rattle.mq_witness.specs.Ruled.{is_stand_in, names_by};
 ghost use Rattle.mq_witness.specs.Asked.{AreLevels, FindsNone, FindsNoneIn, IsListed, Knows, Shows};
 ghost use Rattle.mq_witness.specs.Asked.{ShowsIn, Stands, StandsIn, is_placeholder};
 ghost use Rattle.mq_witness.specs.Limits.{IsFault, long_line};
@@ -19,21 +21,22 @@ ghost use Rattle.mq_witness.specs.Rows.{all_rows, is_user_of, lent_rows, rows_na
 ghost use Rattle.mq_witness.specs.Topics.{FindsNoTopic, IsLimitFault, IsTopic};
 ghost use Rattle.std.specs.Option.{option_copied};
 
-use crate::clients::Clients;
 use crate::fault::{LimitFault, ListFault};
 use crate::fresh::BothFresh;
-use crate::ids::can_be_level;
 use crate::limits::{first_long, limit_fault};
 use crate::literals::Literals;
 use crate::names::{Names, has_states};
 use crate::one::OneClient;
-use crate::patterns::{has_patterns, marked};
+use crate::patterns::marked;
 use crate::question::Found;
+use crate::ruled_search::RuledSearch;
+use crate::ruled_texts::{RuledTexts, lent, witness_of};
 use crate::search::Search;
 use crate::texts::FreshTexts;
 use crate::topics::Topics;
 use crate::witness::Witness;
 use mq_acl::{Row, Rules};
+use mq_shapes::Clients;
 use mq_topic::TopicName;
 use std::alloc::{AllocError, Global};
 use std::marker::Model;
@@ -42,14 +45,14 @@ use std::marker::Model;
 pub struct Asked<'a> {
     lists: Vec<&'a [Row]>,
     rules: Rules,
-    // Whether one of them has a `pattern` row.
-    patterns: bool,
     texts: FreshTexts,
     // With ids that begin with `$`.
     dollar: FreshTexts,
     // Longer than what a question about one client may name.
     longest: FreshTexts,
     users: Literals<'a>,
+    // For questions by mosquitto's rules.
+    ruled: RuledTexts<'a>,
 }
 
 // Opaque to callers' proofs: one step, and not one for each field (docs/explanation/gate.md).
@@ -58,23 +61,23 @@ impl Drop for Asked<'_> {
         let Asked {
             lists: _,
             rules: _,
-            patterns: _,
             texts: _,
             dollar: _,
             longest: _,
             users: _,
+            ruled: _,
         } = self;
     }
 }
 
 impl<'a> Model for Asked<'a> {
-    ghost use Rattle.std.specs.Prelude.{◌&&◌, not};
-    ghost use Rattle.std.specs.Prelude.{◌≡◌, ◌++◌, true};
+    ghost use Rattle.std.specs.Prelude.{◌≡◌, ◌++◌, string_bytes, true};
     ghost use Rattle.mq_witness.specs.Asked.{AskedRows};
     ghost use Rattle.mq_witness.specs.FreshTexts.{fresh_texts};
     ghost use Rattle.mq_witness.specs.Ready.{CanAnswer};
     ghost use Rattle.mq_witness.specs.Rows.{all_rows};
-    ghost use Rattle.mq_witness.specs.Ruled.{are_whole, has_patterns};
+    ghost use Rattle.mq_witness.specs.Ruled.{are_whole};
+    ghost use Rattle.mq_witness.specs.RuledTexts.{IsRuledFor};
 
     ghost Value = { AskedRows };
 
@@ -83,11 +86,13 @@ impl<'a> Model for Asked<'a> {
       rows = all_rows a.lists.items;
       placeholders = fresh_texts a.texts
           ++ fresh_texts a.dollar;
+      plain = string_bytes a.ruled.prefixes.plain;
+      dollar = string_bytes a.ruled.prefixes.dollar;
     } };
 
     ghost invariant = { λ a. CanAnswer (all_rows a.lists.items) a.texts a.dollar
         a.longest a.users × ((are_whole a.rules (all_rows a.lists.items) ≡ true)
-        × (a.patterns ≡ has_patterns (all_rows a.lists.items))) };
+        × IsRuledFor (all_rows a.lists.items) a.ruled) };
 }
 
 // The levels and the user names of the lists.
@@ -114,16 +119,6 @@ fn users_in<'a>(alloc: Global, lists: &[&'a [Row]]) -> Result<Literals<'a>, Allo
     Ok(users)
 }
 
-// Whether the user name that is asked about, if there is one, can be a level.
-fn has_level(clients: Clients) -> bool
-    ensures { result ≡ name_passes can_be_level clients.entry }
-{
-    match clients {
-        Clients::Named(name) => can_be_level(name),
-        _ => true,
-    }
-}
-
 impl<'a> Asked<'a> {
     /// Takes the rows of lists, which decide by these rules. A row with a level or a user name of
     /// more than 300 bytes is named by the place of its list and by its line: a topic name made of
@@ -143,20 +138,20 @@ impl<'a> Asked<'a> {
         if let Some(marked) = marked(rules, &lists) {
             return Err(ListFault::Mark(marked.place, marked.line));
         }
-        let patterns = has_patterns(&lists);
         let names = names_in(alloc, &lists)?;
         let users = users_in(alloc, &lists)?;
         let texts = FreshTexts::find(alloc, false, &names)?;
         let dollar = FreshTexts::find(alloc, true, &names)?;
         let longest = FreshTexts::longest(alloc)?;
+        let ruled = RuledTexts::of(alloc, &lists, &users)?;
         Ok(Asked {
             lists,
             rules,
-            patterns,
             texts,
             dollar,
             longest,
             users,
+            ruled,
         })
     }
 
@@ -170,12 +165,23 @@ impl<'a> Asked<'a> {
         self.users.list(alloc)
     }
 
-    /// Whether a witness has this client id, user name or level of its topic for any that no row names.
-    pub fn is_placeholder(&self, text: &str) -> bool
-        ensures placeholder { result ≡ is_placeholder text.now self.now }
-        ensures unnamed { result ≡ true → rows_name text.now self.now.rows ≡ false }
+    /// By whose rules they decide.
+    pub fn rules(&self) -> Rules
+        ensures { result ≡ self.now.rules }
     {
-        self.texts.has(text) || self.dollar.has(text)
+        self.rules
+    }
+
+    /// Whether a witness has this client id, user name or level of its topic for any that no row names; by mosquitto's rules
+    /// this level, wherever it stands.
+    pub fn is_placeholder(&self, text: &str) -> bool
+        ensures placeholder { result ≡ is_stand_in self.now text.now }
+        ensures unnamed { result ≡ true → names_by self.now.rules text.now self.now.rows ≡ false }
+    {
+        match self.rules {
+            Rules::Own => self.texts.has(text) || self.dollar.has(text),
+            Rules::Mosquitto => self.ruled.prefixes.begin(text),
+        }
     }
 
     /// A client and a topic that each row of `must` concerns and no row of `cover` does, or that
@@ -248,17 +254,9 @@ impl<'a> Asked<'a> {
         }
     }
 
-    // Whether questions by mosquitto's rules are about none of these clients.
-    fn passes_over(&self, clients: Clients) -> bool
-        ensures { result
-            ≡ (has_patterns self.now.rows && not (name_passes can_be_level clients.entry)) }
-    {
-        self.patterns && !has_level(clients)
-    }
-
     /// A client and one of these topics that begins with `$`, or doesn't, that each row of `must`
     /// concerns by the rules of the lists and no row of `cover` does; or that there is none: of all
-    /// client ids and user names that `is_asked_of` says, and all topic names.
+    /// client ids that a broker can have, all user names that are asked about, and all topic names.
     pub fn find_kind<'q>(
         &'q self,
         alloc: Global,
@@ -277,13 +275,50 @@ impl<'a> Asked<'a> {
             clients.entry (lent_rows must.entry.now) (lent_rows cover.entry.now))) }
         ensures kind { IfOk result (λ found. IfSome found (λ w.
             begins_with_dollar w.name ≡ dollar)) }
-        ensures known { IfOk result (λ found. IfSome found (Knows self.entry.now)) }
+        ensures known { IfOk result (λ found. IfSome found (KnowsBy self.entry.now)) }
         ensures stands { IfOk result (λ found. IfSome found (StandsBy topics self.entry.now
             clients.entry (lent_rows must.entry.now) (lent_rows cover.entry.now))) }
     {
         match self.rules {
             Rules::Own => self.find_in(alloc, false, Names::begun(dollar), clients, must, cover),
             Rules::Mosquitto => self.find_level(alloc, clients, dollar, topics, must, cover),
+        }
+    }
+
+    // A client that is asked about, and one of these names that each of the first rows concerns by mosquitto's rules and none
+    // of the others does.
+    fn find_names<'q>(
+        &'q self,
+        alloc: Global,
+        names: Names,
+        clients: Clients<'q>,
+        must: &'q [&'q Row],
+        cover: &'q [&'q Row],
+    ) -> Result<Option<Witness>, AllocError>
+        requires rules { self.now.rules ≡ rules.Mosquitto }
+        requires user { IsListed self.now clients }
+        requires must { All (Contains self.now.rows) (lent_rows must.now) }
+        requires cover { All (Contains self.now.rows) (lent_rows cover.now) }
+        ensures none { IfOk result (λ found. IfNone found (NamesFindNone names self.entry.now
+            clients.entry (lent_rows must.entry.now) (lent_rows cover.entry.now))) }
+        ensures some { IfOk result (λ found. IfSome found (IsHit self.entry.now clients.entry
+            (lent_rows must.entry.now) (lent_rows cover.entry.now))) }
+        ensures kind { IfOk result (λ found. IfSome found (λ w. is_one_of names w.name ≡ true)) }
+        ensures known { IfOk result (λ found. IfSome found (LevelsKnown self.entry.now)) }
+        ensures stands { IfOk result (λ found. IfSome found (LevelsStand self.entry.now
+            clients.entry (lent_rows must.entry.now) (lent_rows cover.entry.now))) }
+    {
+        let states = lent(alloc, &self.ruled.states)?;
+        let search = RuledSearch {
+            others: self.ruled.prefixes.others(),
+            users: &self.ruled.users,
+            states: &states,
+            must,
+            cover,
+        };
+        match search.find(alloc, names, clients)? {
+            Some(found) => Ok(Some(witness_of(alloc, found)?)),
+            None => Ok(None),
         }
     }
 
@@ -307,22 +342,18 @@ impl<'a> Asked<'a> {
             clients.entry (lent_rows must.entry.now) (lent_rows cover.entry.now))) }
         ensures kind { IfOk result (λ found. IfSome found (λ w.
             begins_with_dollar w.name ≡ dollar)) }
-        ensures known { IfOk result (λ found. IfSome found (Knows self.entry.now)) }
+        ensures known { IfOk result (λ found. IfSome found (KnowsBy self.entry.now)) }
         ensures stands { IfOk result (λ found. IfSome found (StandsBy topics self.entry.now
             clients.entry (lent_rows must.entry.now) (lent_rows cover.entry.now))) }
     {
-        let _ = &self.lists;
-        if self.passes_over(clients) {
-            return Ok(None);
-        }
         let names = Names::of(dollar, topics);
-        if let Some(found) = self.find_in(alloc, true, names, clients, must, cover)? {
+        if let Some(found) = self.find_names(alloc, names, clients, must, cover)? {
             return Ok(Some(found));
         }
         if !has_states(dollar, topics) {
             return Ok(None);
         }
-        self.find_in(alloc, true, Names::States, clients, must, cover)
+        self.find_names(alloc, Names::States, clients, must, cover)
     }
 
     /// A topic that each row of `must` concerns and no row of `cover` does for the client with this client id, and with

@@ -3,7 +3,6 @@
 #![tactic(auto)]
 
 mod asked;
-mod clients;
 mod fault;
 mod fresh;
 mod ids;
@@ -16,15 +15,17 @@ mod patterns;
 mod pose;
 mod question;
 mod roots;
+mod ruled_search;
+mod ruled_texts;
 mod search;
 mod texts;
 mod topics;
 mod witness;
 
 pub use asked::Asked;
-pub use clients::Clients;
 pub use fault::{LimitFault, ListFault};
 pub use limits::{has_short_levels, long_line};
+pub use mq_shapes::Clients;
 pub use patterns::{has_pattern, is_pattern};
 pub use roots::{begins_with_mark, may_overlap};
 pub use topics::Topics;

@@ -32,18 +32,6 @@ pub fn has_pattern(rows: &[Row]) -> bool
     false
 }
 
-/// Whether one of the lists has a `pattern` row.
-pub(crate) fn has_patterns(lists: &[&[Row]]) -> bool
-    ensures { result ≡ has_patterns (all_rows lists.now) }
-{
-    for rows in lists {
-        if has_pattern(rows) {
-            return true;
-        }
-    }
-    false
-}
-
 // Whether each mark of a `pattern` row is a whole level.
 fn has_whole_marks(row: &Row) -> bool
     ensures { result ≡ has_whole_marks (row_view row.now) }

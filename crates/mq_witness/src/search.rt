@@ -9,7 +9,6 @@ ghost use Rattle.mq_witness.specs.Ready.{AreReady, is_nobody, stand_in};
 ghost use Rattle.mq_witness.specs.Roots.{NoneConcerned};
 ghost use Rattle.mq_witness.specs.Rows.{lent_rows};
 
-use crate::clients::Clients;
 use crate::fresh::BothFresh;
 use crate::ids::can_be_id;
 use crate::literals::Literals;
@@ -17,6 +16,7 @@ use crate::names::Names;
 use crate::pose::pose;
 use crate::question::{Found, Question};
 use mq_acl::Row;
+use mq_shapes::Clients;
 use std::alloc::{AllocError, Global};
 
 /// Rows of lists that are asked about, with the texts that stand for others, and all user names of the lists.

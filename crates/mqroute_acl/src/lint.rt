@@ -1,6 +1,5 @@
 //! The answer to `lint`, of files.
-ghost use Rattle.std.specs.Prelude.{◌≡◌, ◌≤◌, ◌⊎◌, IfOk, IfErr, OnOk, false, map};
-ghost use Rattle.mq_acl.specs.declared.rules.Rules.TheVariants.{Own};
+ghost use Rattle.std.specs.Prelude.{◌≡◌, ◌≤◌, ◌⊎◌, IfOk, IfErr, false, map};
 ghost use Rattle.mq_ask.specs.Statuses.{failure_status};
 ghost use Rattle.mq_acl_args.specs.Files.{input_count, is_input};
 ghost use Rattle.mqroute_acl.specs.Lint.{AreLinted, AreTaken, IsLintedFile, SaysWhetherAllTaken};
@@ -30,18 +29,16 @@ fn lint_file<'a, R: Files, I: Read>(
     options: Options,
     input: &mut I,
     answer: &mut String,
-    notes: &mut String,
 ) -> Result<Linted, Failure<'a>>
     ensures ok { IfOk result (IsLintedFile options.rules (I.remaining input.old) file.entry.now) }
     ensures kept { is_input file.entry.now ≡ false → input.new ≡ input.old }
-    ensures quiet { OnOk result (options.rules ≡ Own → notes.new ≡ notes.old) }
 {
     let text = text_of(rt, alloc, file, input)?;
     let list = ListText {
         file,
         text: text.as_str(),
     };
-    add_lint(alloc, list, options, answer, notes)
+    add_lint(alloc, list, options, answer)
 }
 
 // The first file of which mosquitto doesn't take the list, if it is so of one before or of this.
@@ -63,7 +60,6 @@ fn lint_files<'a, R: Files, I: Read>(
     options: Options,
     input: &mut I,
     answer: &mut String,
-    notes: &mut String,
 ) -> Result<LintedFiles<'a>, Failure<'a>>
     requires { input_count (map (λ file. file.now) files.now) ≤ 1 }
     ensures ok { IfOk result (λ linted. AreLinted options.rules (I.remaining input.old)
@@ -71,12 +67,11 @@ fn lint_files<'a, R: Files, I: Read>(
     ensures taken { IfOk result (λ linted. SaysWhetherAllTaken (I.remaining input.old)
         (map (λ file. file.now) files.now) linted.refused) }
     ensures kept { input_count (map (λ file. file.now) files.now) ≡ 0 → input.new ≡ input.old }
-    ensures quiet { OnOk result (options.rules ≡ Own → notes.new ≡ notes.old) }
 {
     let mut outcome = Outcome::Clear;
     let mut refused = None;
     for file in files {
-        let linted = lint_file(rt, alloc, *file, options, input, answer, notes)?;
+        let linted = lint_file(rt, alloc, *file, options, input, answer)?;
         outcome = outcome.and(linted.outcome);
         refused = first_refused(refused, *file, linted.is_taken);
     }
@@ -92,20 +87,18 @@ pub(crate) fn answer_lint<'a, R: Files, I: Read, W: Write>(
     options: Options,
     input: &mut I,
     out: &mut W,
-    notes: &mut String,
 ) -> Result<Outcome, Failure<'a>>
     requires { input_count (map (λ file. file.now) files.now) ≤ 1 }
     ensures ok { IfOk result (λ outcome. AreLinted options.rules (I.remaining input.old)
         (map (λ file. file.now) files.now) outcome
         × AreTaken (I.remaining input.old) (map (λ file. file.now) files.now)) }
-    ensures quiet { OnOk result (options.rules ≡ Own → notes.new ≡ notes.old) }
     ensures unread { IfErr result (λ failure. failure_status failure ≡ 2
         → (out.new ≡ out.old)
         ⊎ SomeIsRefused (I.remaining input.old) (map (λ file. file.now) files.now)) }
     ensures kept { input_count (map (λ file. file.now) files.now) ≡ 0 → input.new ≡ input.old }
 {
     let mut answer = String::new(alloc);
-    let linted = lint_files(rt, alloc, files, options, input, &mut answer, notes)?;
+    let linted = lint_files(rt, alloc, files, options, input, &mut answer)?;
     let outcome = print_outcome(out, Ok(answer), linted.outcome)?;
     match linted.refused {
         Some(file) => Err(Failure::Linted(file)),

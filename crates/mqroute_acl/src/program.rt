@@ -1,8 +1,7 @@
 //! All of the program but its `main`.
-ghost use Rattle.std.specs.Prelude.{◌≡◌, ◌≢◌, ◌≤◌, ◌⊎◌, ◌∷◌, ℕ, List, [], IfOk, IfErr, OnOk, Some};
+ghost use Rattle.std.specs.Prelude.{◌≡◌, ◌≢◌, ◌≤◌, ◌⊎◌, ◌∷◌, ℕ, List, [], IfOk, IfErr, Some};
 ghost use Rattle.std.specs.Prelude.{false, map, string_bytes, if◌then◌else◌, is_ok};
 ghost use Rattle.std.specs.Option.{option_copied};
-ghost use Rattle.mq_acl.specs.declared.rules.Rules.TheVariants.{Own};
 ghost use Rattle.mq_acl_args.specs.CommandLine.{Asked, IsFaultOf, ReadsInputOnce, asked_by};
 ghost use Rattle.mq_acl_args.specs.CommandLine.{fault_of, files_of, mqroute_acl, question_view};
 ghost use Rattle.mq_acl_args.specs.CommandLine.{rules_given, subcommand_of};
@@ -28,7 +27,7 @@ use mq_ask_cases::ScriptTraffic;
 use mq_ask_compare::show_changes;
 use mq_ask_who::show_who;
 use mq_ask_why::{show_each, show_why};
-use mq_print::{Escape, ListText, shown_lines, shown_name};
+use mq_print::{ListText, shown_name};
 use mq_traffic::Traffic;
 use std::alloc::{AllocError, Global};
 use std::io::{Read, Write};
@@ -53,7 +52,6 @@ fn answer_compare<'a, R: Files, I: Read, W: Write>(
     options: Options,
     input: &mut I,
     out: &mut W,
-    notes: &mut String,
 ) -> Result<Outcome, Failure<'a>>
     requires { input_count (asked.old.now ∷ asked.new.now
         ∷ script_file (option_copied asked.script)) ≤ 1 }
@@ -61,7 +59,6 @@ fn answer_compare<'a, R: Files, I: Read, W: Write>(
         × IsTextOf (I.remaining input.old) asked.entry.old.now old
         × IsTextOf (I.remaining input.old) asked.entry.new.now new
         × IsCompared options.rules asked.entry.only old new outcome) }
-    ensures quiet { OnOk result (options.rules ≡ Own → notes.new ≡ notes.old) }
     ensures unread { IfErr result (λ failure. failure_status failure ≡ 2 → out.new ≡ out.old) }
     ensures kept { input_count (asked.entry.old.now ∷ asked.entry.new.now
         ∷ script_file (option_copied asked.entry.script)) ≡ 0 → input.new ≡ input.old }
@@ -78,7 +75,7 @@ fn answer_compare<'a, R: Files, I: Read, W: Write>(
         text: new_text.as_str(),
     };
     let script = script_traffic(asked.script, &traffic);
-    show_changes(alloc, old, new, asked.only, script, options, out, notes)
+    show_changes(alloc, old, new, asked.only, script, options, out)
 }
 
 /// Of a client and a topic, and whether the status is of reading or of writing.
@@ -187,12 +184,10 @@ fn answer<'a, R: Files, I: Read, W: Write>(
     coloured: bool,
     input: &mut I,
     out: &mut W,
-    notes: &mut String,
 ) -> Result<Outcome, Failure<'a>>
     requires { ReadsInputOnce (question_view request.question) }
     ensures ok { IfOk result (λ outcome. IsAnswer request.entry.options.rules
         (I.remaining input.old) (question_view request.entry.question) outcome) }
-    ensures quiet { OnOk result (request.entry.options.rules ≡ Own → notes.new ≡ notes.old) }
     ensures unread { IfErr result (λ failure. failure_status failure ≡ 2
         → IsUnread (I.remaining input.old) (question_view request.entry.question)
         (out.new ≡ out.old)) }
@@ -204,13 +199,11 @@ fn answer<'a, R: Files, I: Read, W: Write>(
         ..request.options
     };
     match request.question {
-        Question::Compare(asked) => answer_compare(rt, alloc, asked, options, input, out, notes),
+        Question::Compare(asked) => answer_compare(rt, alloc, asked, options, input, out),
         Question::Through(asked) => answer_through(rt, alloc, asked, options, input, out),
         Question::Why(asked) => answer_why(rt, alloc, asked, options, input, out),
         Question::WhyEach(asked) => answer_each(rt, alloc, asked, options, input, out),
-        Question::Lint(files) => {
-            answer_lint(rt, alloc, files.as_slice(), options, input, out, notes)
-        }
+        Question::Lint(files) => answer_lint(rt, alloc, files.as_slice(), options, input, out),
         Question::Reach(asked) => answer_reach(rt, alloc, asked, options, input, out),
         Question::Who(asked) => answer_who(rt, alloc, asked, options, input, out),
         Question::Test(asked) => answer_test(rt, alloc, &asked, options, input, out),
@@ -243,22 +236,6 @@ fn report<E: Write>(alloc: Global, failure: Failure<'_>, err: &mut E) -> u8
     ensures { (result ≡ failure_status failure.entry) ⊎ (result ≡ 3) }
 {
     print_error(failure_line(alloc, &failure), failure.status(), err)
-}
-
-/// Writes what is to be noted beside an answer, and answers its status, or that of want of memory. A failed write is
-/// ignored.
-fn note<E: Write>(alloc: Global, notes: String, status: u8, err: &mut E) -> u8
-    ensures status { (result ≡ status) ⊎ (result ≡ 3) }
-    ensures quiet { string_bytes notes ≡ [] → err.new ≡ err.old }
-{
-    if notes.is_empty() {
-        return status;
-    }
-    print_error(
-        shown_lines(alloc, notes.as_str(), Escape::Words),
-        status,
-        err,
-    )
 }
 
 /// Prints help, or why the words are not understood, and answers the status.
@@ -302,13 +279,12 @@ pub(crate) fn start<R: Files, I: Read, W: Write, E: Write>(
 
     // Of words that are understood, a status of 0 or 1 says what is true of texts that the files
     // may have: of standard input, where its bytes are known, that is what it holds. They name it
-    // once at most. By our own rules nothing is then printed on standard error.
+    // once at most. Nothing is then printed on standard error.
     ensures answered { let given = map string_bytes words.now in fault_of mqroute_acl given ≡ []
         → result ≢ 2 → result ≢ 3
         → IsAnswered (rules_given (values_of (subcommand_of mqroute_acl given)))
         (I.remaining input.old) (asked_by (subcommand_of mqroute_acl given)) result }
     ensures silent { let given = map string_bytes words.now in fault_of mqroute_acl given ≡ []
-        → rules_given (values_of (subcommand_of mqroute_acl given)) ≡ Own
         → result ≢ 2 → result ≢ 3 → err.new ≡ err.old }
 
     // Of words that are not understood a fault that they have is printed, or that memory ran out.
@@ -334,9 +310,8 @@ pub(crate) fn start<R: Files, I: Read, W: Write, E: Write>(
         Ok(request) => request,
         Err(fault) => return report_usage(alloc, fault, out, err),
     };
-    let mut notes = String::new(alloc);
-    match answer(rt, alloc, request, coloured, input, out, &mut notes) {
-        Ok(outcome) => note(alloc, notes, outcome.status(), err),
+    match answer(rt, alloc, request, coloured, input, out) {
+        Ok(outcome) => outcome.status(),
         Err(failure) => report(alloc, failure, err),
     }
 }

@@ -11,8 +11,6 @@ from ..script.access_list import AccessList, Line
 from .findings import Client, Deciding, Json, Remark, Right, Subscription
 from .not_taken import KINDS, ListsNotTaken, NotTaken
 
-Asked = tuple[list[Json], list[str]]  # the objects of an answer, and what is noted beside it
-
 
 class Lists:
     """The list that is in force and the one that is proposed, and by whose rules they are read."""
@@ -29,14 +27,11 @@ class Lists:
         """From here on the proposed list has new names by the plan, a file of another name."""
         self.plan, self.plan_name, self.names[plan] = [f"--plan={plan}"], name, named(name)
 
-    def asked(self, subcommand: str, words: list[str]) -> Asked:
+    def asked(self, subcommand: str, words: list[str]) -> list[Json]:
         """Raises Fault where mqroute-acl ends with another status than 0 and 1."""
         given = [self.current.program, subcommand, "--json", f"--rules={self.rules}", *words]
         done = output_of(given, self.named)
-        shown = [json.loads(line) for line in lines_of(done.stdout.decode("utf-8"))]
-        shown = [row for row in shown if "limited_to" not in row]  # the notes say so, with lines
-        notes = lines_of(self.named(done.stderr.decode("utf-8", "replace")))
-        return shown, notes
+        return [json.loads(line) for line in lines_of(done.stdout.decode("utf-8"))]
 
     def refuse_not_taken(self) -> None:
         """Raises ListsNotTaken where mosquitto doesn't take a line, whatever the rules are. Of a
@@ -58,20 +53,16 @@ class Lists:
             text = text.replace(path, name) if path != name else text
         return text
 
-    def rights(self) -> tuple[list[Right], list[str], list[str]]:
-        """The differences that `mqroute-acl compare` shows, each with all whom it concerns; the
-        users whom a line names and about whom nothing is asked; and what it notes."""
-        rows, notes = self.asked(
-            "compare", [*self.plan, "--", self.current.path, self.proposed.path])
+    def rights(self) -> list[Right]:
+        """The differences that `mqroute-acl compare` shows, each with all whom it concerns."""
         known: dict[tuple[str, str, str, int, int], Right] = {}
-        not_asked = [row["not_asked"] for row in rows if "not_asked" in row]
-        for row in (row for row in rows if "not_asked" not in row):
+        for row in self.asked("compare", [*self.plan, "--", self.current.path, self.proposed.path]):
             old, new = self.current.line(row["old"]), self.proposed.line(row["new"])
             key = row["change"], row["access"], row["topic"], number(old), number(new)
             right = known.setdefault(key, Right(
                 *key[:3], Deciding(old, new), [], row.get("new_topic"), self.rule(row)))
             right.clients.append(Client(row["user"], row["client"], row["placeholders"]))
-        return list(known.values()), not_asked, notes
+        return list(known.values())
 
     def rule(self, row: Json) -> Line | None:
         """The line of the plan that decides about the topic."""
@@ -92,7 +83,7 @@ class Lists:
         return sorted(found.values(), key=lambda one: (one.client, one.filter, one.line))
 
     def receiving_nothing(self, one: AccessList, script: str) -> list[Subscription]:
-        rows, _ = self.asked("reach", [f"--script={script}", "--", one.path])
+        rows = self.asked("reach", [f"--script={script}", "--", one.path])
         return [Subscription(row["line"], row["client"], row["user"], row["filter"])
                 for row in rows if "filter" in row]
 
@@ -107,7 +98,7 @@ class Lists:
                 yield one
 
     def remarks(self, one: AccessList) -> list[Remark]:
-        rows, _ = self.asked("lint", ["--", one.path])
+        rows = self.asked("lint", ["--", one.path])
         return [Remark(row["kind"], row["line"], row["text"], row["words"]) for row in rows]
 
 

@@ -84,14 +84,17 @@ class RefusedRow:
 
 @dataclass
 class Client:
-    """Of whom a right is: `placeholders` are those of the client id, the user name and the levels
-    of the topic that stand for any other."""
+    """Of whom a right is: `placeholders` are those levels of the client id, the user name and the
+    topic that stand for any other."""
     user: str | None
     client: str
     placeholders: list[str]
 
     def is_any_user(self) -> bool:
-        return self.user is not None and self.user in self.placeholders
+        return self.user is not None and self.stands_for_others(self.user)
+
+    def stands_for_others(self, text: str) -> bool:
+        return any(level in self.placeholders for level in text.split("/"))
 
 
 @dataclass
@@ -207,8 +210,6 @@ class Preview:
     subscriptions: list[Subscription]
     remarks: list[Remark]
     copies: Totals
-    notes: list[str]  # on the rules, of mqroute-acl
-    not_asked: list[str]  # users whose rights aren't known
     facts: ScriptFacts = field(default_factory=ScriptFacts)
     check: Check | None = None  # whether the current list was in force; None: a script was given
     said: list[str] = field(default_factory=list)  # of what the answer is, and leaves out
@@ -220,9 +221,9 @@ class Preview:
     kept: KeptNames | None = None  # with a plan
 
     def changes(self) -> bool:
-        """Whether anything does, or isn't known; remarks don't count."""
+        """Whether anything does; remarks don't count."""
         return bool(self.users or self.refused or self.granted or self.taken
-                    or self.subscriptions or self.not_asked)
+                    or self.subscriptions)
 
     def losing(self) -> list[UserRow]:
         return [row for row in self.users if row.lost]
@@ -254,8 +255,7 @@ class Preview:
                 "granted": [right.json() for right in self.granted],
                 "taken": [right.json() for right in self.taken],
                 "subscriptions": [one.json() for one in self.subscriptions],
-                "remarks": as_objects(self.remarks), "notes": self.notes,
-                "not_asked": self.not_asked,
+                "remarks": as_objects(self.remarks),
                 "reload": self.reload.words(),
                 **by_plan, "totals": self.totals(), "summary": summary}
 

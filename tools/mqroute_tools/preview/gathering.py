@@ -67,8 +67,6 @@ class Steps:
 class Answers:
     """What mqroute-acl answers about both lists."""
     rights: list[Right]
-    not_asked: list[str]
-    notes: list[str]
     remarks: list[Remark]
     subscriptions: list[Subscription]
 
@@ -246,11 +244,11 @@ def receiving_nothing(lists: Lists, scripts: tuple[str, str],
 def asked_first(lists: Lists, steps: Steps) -> Answers:
     """What needs no script, so that a list with a fault is refused before a long log is read."""
     steps.next()
-    rights, not_asked, notes = lists.rights()
+    rights = lists.rights()
     steps.next()
     remarks = list(lists.new_remarks())
     steps.clear()
-    return Answers(rights, not_asked, notes, remarks, [])
+    return Answers(rights, remarks, [])
 
 
 def run(options: argparse.Namespace, lists: Lists, one: AccessList, script: str,
@@ -326,8 +324,7 @@ def put_together(options: argparse.Namespace, lists: Lists, script: Script,
     found = Preview(
         options.current, options.proposed, options.source, options.rules,
         later_name(options, script), differences.users, differences.refused, granted, taken,
-        answers.subscriptions, answers.remarks, differences.totals, answers.notes,
-        answers.not_asked)
+        answers.subscriptions, answers.remarks, differences.totals)
     found.reload = reload_of(options.proposed)
     known = list(dict.fromkeys(user for name in (options.current, options.proposed)
                                for user in users_of(name)))

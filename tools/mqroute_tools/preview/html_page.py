@@ -14,7 +14,7 @@ from .page_rows import Rows
 from .page_style import STYLE
 from .share_picture import picture
 from .verdict import verdict
-from .words import AWAY, CARRIED, NOT_ASKED, RETAINED, summary, tried
+from .words import AWAY, CARRIED, RETAINED, summary, tried
 
 TITLE = "A new access list: who loses, who gains, what is newly allowed"
 PLAN_TITLE = "New topics and a new access list: who loses, who gains, what is newly allowed"
@@ -45,8 +45,6 @@ def parts(found: Preview, title: str) -> Iterator[str]:
             caption = (f"{counted(len(rights), 'rights', ',')} that {file(grants[0])} grants and "
                        f"{file(grants[1])} doesn't, whether or not anybody tried")
             yield section(head, rows.rights(name, rights, caption))
-    if found.not_asked:
-        yield section(NOT_ASKED, listed([f"user {user}" for user in found.not_asked], "not-asked"))
     if found.users:
         drawn = any(row.lost or row.gained for row in found.users)
         yield section("Who loses, who gains",
@@ -61,7 +59,6 @@ def parts(found: Preview, title: str) -> Iterator[str]:
         yield from kept_sections(found.kept, rows)
     if found.remarks:
         yield section(f"New remarks on {file(found.proposed)}", rows.remarks())
-    yield notes(found)
     yield f"<p id='reload'>{escaped(found.reload.words())}</p>\n"
     yield f"<p id='summary'>{escaped(summary(found))}</p>\n{ENDING}"
 
@@ -117,11 +114,6 @@ def verdict_of(found: Preview) -> str:
         (f"<b><bdi>{escaped(one.strong)}</bdi></b> " if one.strong else "") + escaped(one.rest)
         for one in said)
     return f"<p id='verdict' class='{kind}'>{sentences}</p>\n"
-
-
-def notes(found: Preview) -> str:
-    """On whose rules an answer holds, or where other rules decide otherwise."""
-    return listed(found.notes, "notes") if found.notes else ""
 
 
 def listed(texts: list[str], kind: str) -> str:

@@ -8,7 +8,6 @@ border-left: .3rem solid var(--changed); overflow-wrap: anywhere }
 #verdict.loss { border-color: var(--lost) }
 #verdict.none { border-color: var(--kept) }
 .said { padding-left: 1.2rem; overflow-wrap: anywhere }
-.notes { font-size: .9rem; color: var(--dim); padding-left: 1.2rem }
 .kept { fill: var(--kept) } .cover { fill: var(--back) }
 .key { display: inline-block; width: .8em; height: .8em; margin-left: .7em; \
 background: var(--gained) }

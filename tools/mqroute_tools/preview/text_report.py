@@ -13,7 +13,7 @@ from .findings import (
     Carried, Cause, Deciding, Preview, RefusedRow, Remark, Right, Subscription, UserRow)
 from .gathered_topics import Topics
 from .words import (
-    AWAY, CARRIED, LIMITED, NO_LINE, NO_RULE, NO_TOPIC, NO_USE, NOT_ASKED, RETAINED, changes,
+    AWAY, CARRIED, NO_LINE, NO_RULE, NO_TOPIC, NO_USE, RETAINED, changes,
     client_of, concerned, may, refusals, scope_of, summary, topic_count, tried, unused, used, verb,
     waits, whom)
 
@@ -51,8 +51,6 @@ class Report:
              self.first(used(found.taken), self.right)),
             (f"Newly allowed, {NO_TOPIC}", self.first(unused(found.granted), self.right)),
             (f"No longer allowed, {NO_TOPIC}", self.first(unused(found.taken), self.right)),
-            (NOT_ASKED, self.first(found.not_asked, self.not_asked)),
-            (LIMITED, self.first(found.notes, self.limit)),
             ("Subscriptions that can receive nothing any more",
              self.first(found.subscriptions, self.subscription)),
             (CARRIED, self.first(found.carried, self.carried)),
@@ -78,12 +76,6 @@ class Report:
         lines = self.found.check.lines() if self.found.check else []
         lines += self.found.said
         return "\n".join(part for line in lines for part in self.out.wrapped(line))
-
-    def not_asked(self, user: str) -> list[str]:
-        return [f"  user {shown(user)}"]
-
-    def limit(self, noted: str) -> list[str]:
-        return self.out.wrapped(shown(noted.removeprefix("mqroute-acl: ")), "  ", "    ")
 
     def first(self, rows: list[Row], shows: Callable[[Row], Iterable[str]]) -> Iterator[str]:
         for row in rows[:ROWS]:

@@ -20,6 +20,6 @@ def mark_unused(found: Preview, lists: Lists, renaming: Renaming) -> None:
 def about_of(right: Right) -> About:
     asked = tuple(Question(one.client, one.user, "", right.access) for one in right.clients)
     named = {text for one in right.clients for text in (one.client, one.user)
-             if text is not None and text in one.placeholders}
+             if text is not None and one.stands_for_others(text)}
     lines = right.deciding.current, right.deciding.proposed
     return About(right.rule.line if right.rule else None, lines, asked, frozenset(named))

@@ -28,7 +28,7 @@ def verdict(found: Preview) -> list[Sentence]:
     others = [row for row in losing if row.after > 0]
     gaining = [row for row in found.gaining() if not row.lost]
     return [*newly_writing(found.granted), *silenced(silent), *losers(others),
-            *gainers(gaining), *refused(found), *rights(found), *not_asked(found),
+            *gainers(gaining), *refused(found), *rights(found),
             *receiving_nothing(found), *otherwise(found)]
 
 
@@ -117,11 +117,6 @@ def rights(found: Preview) -> list[Sentence]:
     if granted:
         return [Sentence("", f"{new}.", False)]
     return [Sentence("", counted(taken, "rights would be taken away.", ","), True)] if taken else []
-
-
-def not_asked(found: Preview) -> list[Sentence]:
-    words = f"The rights of {counted(len(found.not_asked), 'users')} aren't known."
-    return [Sentence("", words, True)] if found.not_asked else []
 
 
 def receiving_nothing(found: Preview) -> list[Sentence]:

@@ -17,8 +17,6 @@ RETAINED = "Retained under old names when the script ends"
 AWAY = "Away when the script ends, with subscriptions under old names"
 NO_TOPIC = "on names that no topic of the script has"
 NO_USE = "if nobody uses them, the plan can say so:"
-LIMITED = "Of whom the rights are known"
-NOT_ASKED = "Users that a line names and whose rights aren't known (their names hold /, + or #)"
 OTHERWISE = "another QoS, RETAIN flag, payload or expiry"
 
 
@@ -81,18 +79,12 @@ def summary(found: Preview) -> str:
             f"{counted(found.copies.before, 'messages', ',')}, {number_form(gaining, 'gain')}; "
             f"{counted(len(found.granted), 'rights granted', ',')}, {len(found.taken):,} taken "
             f"away; {counted(len(found.subscriptions), 'subscriptions', ',')} can receive nothing "
-            f"any more{unknown(found)}")
+            f"any more")
 
 
 def waits(number: int) -> str:
     """How much waits for a client that is away."""
     return f"{counted(number, 'messages', ',')} {'waits' if number == 1 else 'wait'}"
-
-
-def unknown(found: Preview) -> str:
-    """Behind the sums: that they leave users out."""
-    number = len(found.not_asked)
-    return f"; the rights of {counted(number, 'users', ',')} aren't known" if number else ""
 
 
 def tried(found: Preview) -> str:
@@ -141,7 +133,16 @@ def kind_of(client: Client, level: str) -> str:
     """What a level is that stands for others."""
     if level == client.client:
         return "client id and user" if level == client.user else "client id"
-    return "user" if level == client.user else "level"
+    if level == client.user:
+        return "user"
+    return (part(client.client, "client id", level) or part(client.user or "", "user", level)
+            or "level")
+
+
+def part(text: str, kind: str, level: str) -> str:
+    """Which level of a text of several it is; nothing where it is none."""
+    levels = text.split("/")
+    return f"{kind} {levels.index(level) + 1}" if len(levels) > 1 and level in levels else ""
 
 
 def level_shown(client: Client, place: int, level: str) -> str:
@@ -205,4 +206,9 @@ def unused(rights: list[Right]) -> list[Right]:
 def client_of(right: Right) -> str:
     """The client id, where it stands for itself alone."""
     first = right.clients[0]
-    return "" if first.client in first.placeholders else f'client id: "{shown(first.client)}"'
+    if first.client in first.placeholders:
+        return ""
+    if not first.stands_for_others(first.client):
+        return f'client id: "{shown(first.client)}"'
+    levels = (level_shown(first, 0, level) for level in first.client.split("/"))
+    return f"client id: {shown('/'.join(levels))}"

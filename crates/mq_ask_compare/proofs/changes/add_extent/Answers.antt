@@ -4,6 +4,5 @@ use Rattle.mq_ask_compare.proofs.changes.add_extent.Goals as goal
 
 pub returns : goal.returns
 returns c = on_ok_weaker c.write.result
-    (λ added. extent_is _ c.every_word-every.result.now c.which_words-which.result.now _
-    c.args.scope.only c.args.scope.is_limited c.every_word-every.ensures
-    c.which_words-which.ensures added) c.write.ensures.bytes
+    (λ added. extent_is _ c.every_word-every.result.now _ c.args.only c.every_word-every.ensures
+    added) c.write.ensures.bytes

@@ -12,8 +12,7 @@ returns-then-json-clause-objects c =
     let news = ap lent_texts c.deref-2.ensures.value ∙ c.in_ok-new_lines.ensures in
     IfOk-weaker c.json_lines.result _ _
     (λ text shown. λ json none. shown none ∙ changes_same (list_view c.args.old)
-    (list_view c.args.new) _ _ _ c.args.differences.items (lent_texts c.args.scope.not_asked.now)
-    olds news c.deref-then-json.ensures.value) c.json_lines.ensures
+    (list_view c.args.new) _ _ _ c.args.differences.items olds news c.deref-then-json.ensures.value) c.json_lines.ensures
 
 pub returns-then-is_empty-clause-words : goal.returns-then-is_empty-clause-words
 returns-then-is_empty-clause-words c =

@@ -1,4 +1,4 @@
-use Rattle.std.proofs.Common.{◌∙◌, string_bytes}
+use Rattle.std.proofs.Common.{◌∙◌}
 use Rattle.mq_print.specs.Lists.{list_view}
 use Rattle.mq_ask_lint.proofs.LintLemmas.{linted}
 use Rattle.mq_ask_lint.proofs.ObjectLemmas.{all_added}
@@ -13,10 +13,8 @@ pub returns-clause-json : goal.returns-clause-json
 returns-clause-json c = λ json. record {
   found = c.in_ok-found.found;
   are = c.in_ok-found.ensures.ok;
-  shown = string_bytes c.add_whole.new.answer;
   objects = all_added (list_view c.args.list) c.args.list.text.now c.in_ok-found.found _ _ _ _ _ _ _ _
-      c.deref-2.ensures.value c.deref-3.ensures.value c.deref-4.ensures.value
-      (c.deref-5.ensures.value ∙ c.in_ok-refused.ensures) (c.in_ok-add_remarks.ensures json)
+      c.deref.ensures.value c.deref-2.ensures.value c.deref-3.ensures.value
+      (c.deref-4.ensures.value ∙ c.in_ok-refused.ensures) (c.in_ok-add_remarks.ensures json)
       (c.in_ok-add_refused.ensures json) (c.in_ok-add_whole.ensures json _);
-  text_is = c.in_ok-add_limit_json.ensures json;
 }

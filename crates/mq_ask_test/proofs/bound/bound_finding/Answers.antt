@@ -7,11 +7,10 @@ returns-in-Some-clause-finding c =
     beyond c.args.rules c.args.bound.rows.now c.args.list.rows.now c.args.way
     c.in-Ok.differences.items c.in-Some.difference (sym c.in-Some.ensures) c.in-Ok.ensures.real
 
-pub returns-in_ok-unless_left_out-in-None-clause-finding : goal.returns-in_ok-unless_left_out-in-None-clause-finding
-returns-in_ok-unless_left_out-in-None-clause-finding c =
-    c.in_ok-unless_left_out-in-None.ensures c.args.way
-    (within c.args.rules c.args.bound.rows.now c.args.list.rows.now c.in-Ok.differences.items
-    c.in-Ok.ensures.every c.args.way (sym c.in-None.ensures))
+pub returns-in-None-clause-finding : goal.returns-in-None-clause-finding
+returns-in-None-clause-finding c =
+    within c.args.rules c.args.bound.rows.now c.args.list.rows.now c.in-Ok.differences.items
+    c.in-Ok.ensures.every c.args.way (sym c.in-None.ensures)
 
 pub returns-in-Err-clause-fault : goal.returns-in-Err-clause-fault
 returns-in-Err-clause-fault c =

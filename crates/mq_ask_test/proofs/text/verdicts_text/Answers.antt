@@ -9,6 +9,6 @@ returns-clause-objects c = λ json.
       verdicts = said.0;
       are = said.1;
       text_is = with_limit c.args.rules _ _ _ said.2
-          (λ own. ap string_bytes (c.in_ok-add_who_limit.ensures.own own))
-          (λ mosquitto. c.in_ok-add_who_limit.ensures.object mosquitto json);
+          (λ own. ap string_bytes (c.in_ok-add_limit.ensures.own own))
+          (λ mosquitto. c.in_ok-add_limit.ensures.object mosquitto json);
     }

@@ -1,9 +1,9 @@
-use Rattle.std.proofs.Common.{◌≡◌, ◌++◌, ◌∙◌, ℕ, List, ap, append_assoc, arith, take}
+use Rattle.std.proofs.Common.{◌≡◌, ◌++◌, ◌∙◌, ℕ, List, ap, arith, take}
 use Rattle.std.proofs.lemmas.List.{take_all}
-use Rattle.mq_ask.specs.Objects.{not_asked_texts, refused_texts}
+use Rattle.mq_ask.specs.Objects.{refused_texts}
 use Rattle.mq_ask_who.specs.WhoShown.{permission_texts}
 use Rattle.mq_ask_who.proofs.WhoShownLemmas.{texts_more}
-use Rattle.mq_print.specs.Lists.{lent_texts, lines_view}
+use Rattle.mq_print.specs.Lists.{lines_view}
 use Rattle.mq_ask_who.proofs.permissions.json_lines.Goals as goal
 
 pub loop-one-preserved : goal.loop-one-preserved
@@ -17,12 +17,9 @@ pub returns : goal.returns
 returns c = λ refused kept none.
     let list = lines_view c.args.list in
     let broker = c.args.asked.refused.now in
-    let users = not_asked_texts (lent_texts c.args.asked.not_asked.now) in
     let texts = permission_texts list broker refused in
     let all : take c.loop-one.one-index c.args.granted.now ≡ c.args.granted.now =
     take_all c.loop-one.one-index c.args.granted.now (omega arith) in
-    c.in_ok-add_not_asked_json.ensures
-    ∙ ap (λ (t : List ℕ). t ++ users) (c.in_ok-add_refused_json.ensures
+    c.in_ok-add_refused_json.ensures
     ∙ ap (λ (t : List ℕ). t ++ refused_texts broker)
-    (c.loop-one.invariant refused kept none ∙ ap texts all))
-    ∙ append_assoc (texts c.args.granted.now) (refused_texts broker) users
+    (c.loop-one.invariant refused kept none ∙ ap texts all)

@@ -1,10 +1,10 @@
 use Rattle.std.specs.Option.{option_copied}
-use Rattle.std.proofs.Common.{◌∙◌, ap, string_bytes}
+use Rattle.std.proofs.Common.{◌∙◌, ap, subst}
+use Rattle.std.specs.Io.KnownBytes.{Appends}
 use Rattle.std.proofs.lemmas.Result.{IfOk-weaker, on_ok_weaker}
 use Rattle.mq_acl.specs.Views.{row_views}
 use Rattle.mq_ask_who.specs.AnyShown.{any_text}
 use Rattle.mq_ask_who.specs.ReachAny.{IsReachedByAny}
-use Rattle.mq_ask.proofs.LimitLemmas.{with_limit}
 use Rattle.mq_print.specs.Lists.{list_view}
 use Rattle.mq_ask_who.proofs.reach_any.show_reach_any.Goals as goal
 
@@ -21,26 +21,14 @@ returns-clause-ok g c =
     } in
     IfOk-weaker c.print_outcome.result _ _ (λ shown e. rw e is) c.print_outcome.ensures.ok
 
-pub returns-clause-limited : goal.returns-clause-limited
-returns-clause-limited g c =
-    on_ok_weaker c.print_outcome.result
-    (λ written. λ rules words. (
-      string_bytes c.add_who_limit.new.text,
-      written,
-      (string_bytes c.in_ok-text.text, c.in_ok-add_who_limit.ensures.words rules words),
-    )) c.print_outcome.ensures.printed
-
 pub returns-clause-json : goal.returns-clause-json
 returns-clause-json g c =
     on_ok_weaker c.print_outcome.result
     (λ written. λ json. record {
       found = c.in_ok-found.found;
       is_found = c.in_ok-found.ensures.ok;
-      text = string_bytes c.add_who_limit.new.text;
-      text_is = with_limit c.args.options.rules _ _ _
+      written = subst (Appends (g.W.Write.contents c.args.out.now)
+          (g.W.Write.contents c.print_outcome.new.out))
           (c.in_ok-text.ensures json ∙ ap (any_text (list_view c.args.list)
-          (option_copied c.args.user) c.args.wanted.now) c.as_ref.ensures.value)
-          (λ own. ap string_bytes (c.in_ok-add_who_limit.ensures.own own))
-          (λ rules. c.in_ok-add_who_limit.ensures.object rules json);
-      written = written;
+          (option_copied c.args.user) c.args.wanted.now) c.as_ref.ensures.value) written;
     }) c.print_outcome.ensures.printed

@@ -12,6 +12,12 @@ returns-in_err-add_all-clause-fault c =
     c.in_err-add_all.field-0.0 c.in_err-add_all.ensures.fault in
     search (rules, stopped)
 
+pub returns-clause-every : goal.returns-clause-every
+returns-clause-every c =
+    carried (λ rules old new all. ShowsAll rules old new all) c.in_ok-lists.ensures.rules
+    c.in_ok-lists.ensures.old c.in_ok-lists.ensures.new (ap Vec.items c.into_differences.ensures)
+    c.in_ok-add_all.ensures.shown
+
 pub returns-clause-real : goal.returns-clause-real
 returns-clause-real c =
     let lists = c.in_ok-lists.lists in

@@ -1,5 +1,5 @@
 use Rattle.std.proofs.Common.{◌&&◌, ap, ◌∙◌, refl}
-use Rattle.mq_witness.specs.Asked.{is_placeholder}
+use Rattle.mq_witness.specs.Ruled.{is_stand_in}
 use Rattle.mq_differences.specs.Differences.{is_of}
 use Rattle.mq_differences.specs.declared.difference.Difference.{Difference}
 use Rattle.mq_differences.specs.declared.reason.Reason.{Reason}
@@ -36,8 +36,9 @@ returns-clause-sound c =
     c.requires.question c.requires.gain c.requires.shows c.requires.stands
     c.requires.known (is_of_witness c)
     (λ text. c.in_ok-placeholders.ensures.shown text
-    ∙ (λ i. is_of text (c.deref.ensures i) (c.user.ensures i) c.args.witness.name
-    && is_placeholder text c.args.question.now.lists.now.asked))
+    ∙ (λ i. is_of c.args.question.now.lists.now.asked.rules text (c.deref.ensures i)
+    (c.user.ensures i) c.args.witness.name
+    && is_stand_in c.args.question.now.lists.now.asked text))
     c.in_ok-placeholders.ensures.unnamed
 
 pub returns-clause-shown : goal.returns-clause-shown

@@ -1,6 +1,6 @@
 use Rattle.std.proofs.Common.{ap, sym, ◌∙◌, String, Global, List, ℕ, All, subst}
 use Rattle.std.proofs.lemmas.List.Elements.{All-push}
-use Rattle.mq_witness.specs.Rows.{rows_name}
+use Rattle.mq_witness.specs.Ruled.{names_by}
 use Rattle.mq_differences.specs.Differences.{IsUnnamed, has_text}
 use Rattle.mq_differences.proofs.PlaceholderLemmas.{text_added, text_not, text_there}
 use Rattle.mq_differences.proofs.placeholders.add_placeholder.Goals as goal
@@ -27,6 +27,7 @@ pub returns-clause-unnamed : goal.returns-clause-unnamed
 returns-clause-unnamed c = λ all.
     subst (All (IsUnnamed c.args.asked.now)) (sym c.in_ok-push.ensures.items)
     (All-push (IsUnnamed c.args.asked.now) c.args.placeholders.now.items c.in_ok-from_str.field-0
-    all (ap (λ (t : List ℕ). rows_name t c.args.asked.now.rows) c.in_ok-from_str.ensures.ok
+    all (ap (λ (t : List ℕ). names_by c.args.asked.now.rules t c.args.asked.now.rows)
+    c.in_ok-from_str.ensures.ok
     ∙ c.is_placeholder.ensures.unnamed (c.is_placeholder.ensures.placeholder
     ∙ sym c.if-not-is_placeholder.ensures.placeholder)))

@@ -1,76 +1,34 @@
-use Rattle.std.proofs.Common.{◌&&◌, lit<, length, take, ap, sym, ◌∙◌, ◌||◌, subst}
-use Rattle.std.proofs.Common.{List, String, Global, refl, arith, All}
-use Rattle.std.specs.Option.{option_copied}
+use Rattle.std.proofs.Common.{◌&&◌, ◌||◌, ℕ, ap, refl, sym, subst, ◌∙◌, All, Global, List, String}
+use Rattle.std.specs.List.{list_any}
 use Rattle.std.specs.Str.{bytes_eq}
-use Rattle.std.specs.Str.Iter.{split_text, split_has_more, split_pattern}
-use Rattle.std.proofs.lemmas.Iterator.Splits.{YieldsList-from_str_split}
-use Rattle.std.proofs.lemmas.Iterator.Consumers.{YieldsList-turn, YieldsList-end}
-use Rattle.std.proofs.lemmas.List.{length_push, take_all}
 use Rattle.std.proofs.lemmas.List.Elements.{All-nil}
 use Rattle.mq_topic.specs.Levels.{levels}
-use Rattle.mq_witness.specs.Asked.{is_placeholder}
-use Rattle.mq_differences.specs.Differences.{IsUnnamed, has_text}
-use Rattle.mq_differences.proofs.PlaceholderLemmas.{is_shown, shown_first, shown_more}
+use Rattle.mq_witness.specs.Ruled.{is_stand_in}
+use Rattle.mq_differences.specs.Differences.{IsUnnamed, has_text, is_part, is_user_part}
+use Rattle.std.specs.Option.{option_copied}
+use Rattle.mq_differences.proofs.PlaceholderLemmas.{all_shown}
 use Rattle.mq_differences.proofs.placeholders.placeholders.Goals as goal
-
-pub loop-level-init : goal.loop-level-init
-loop-level-init c = record {
-  can_next = tt;
-  is_finite = tt;
-  shown = λ text.
-      let made = is_placeholder text c.args.asked.now in
-      c.in_ok-add_placeholder-2.ensures.shown text
-      ∙ ap (λ b. b || (bytes_eq text c.unwrap_or.result.now && made))
-      (c.in_ok-add_placeholder.ensures.shown text
-      ∙ ap (λ (texts : List (String Global)). has_text texts text
-      || (bytes_eq text c.args.client.now && made)) c.new-all.ensures.items)
-      ∙ shown_first text c.args.client.now c.args.user c.unwrap_or.result c.args.client made
-      c.unwrap_or.ensures refl;
-  unnamed = c.in_ok-add_placeholder-2.ensures.unnamed (c.in_ok-add_placeholder.ensures.unnamed
-      (subst (All (IsUnnamed c.args.asked.now)) (sym c.new-all.ensures.items)
-      (All-nil (IsUnnamed c.args.asked.now))));
-}
-
-pub loop-level-preserved : goal.loop-level-preserved
-loop-level-preserved c =
-    let name = c.args.topic.now in
-    let same = c.into_iter-level-iterator.ensures.into_iter_gives in
-    let turn = YieldsList-turn
-    (YieldsList-from_str_split 47 name (lit< tt)
-    (ap split_text same ∙ c.split-level-items.ensures.text ∙ c.text.ensures.text)
-    (ap split_has_more same ∙ c.split-level-items.ensures.has_more)
-    (ap split_pattern same ∙ c.split-level-items.ensures.pattern)) c.loop-level.yielded _
-    c.loop-level.yielded_by _ _ c.in-Some.level c.in-Some.is c.next.ensures.steps in
-    let n = length c.loop-level.yielded in
-    record {
-      can_next = tt;
-      is_finite = tt;
-      shown = λ text.
-          let made = is_placeholder text c.args.asked.now in
-          c.in_ok-add_placeholder-3.ensures.shown text
-          ∙ ap (λ b. b || (bytes_eq text c.in-Some.level.now && made))
-          (c.loop-level.invariant.shown text)
-          ∙ shown_more text c.args.client.now c.in-Some.level.now (option_copied c.args.user)
-          (levels name) n made turn.0 turn.1
-          ∙ ap (λ k. is_shown text c.args.client.now (option_copied c.args.user)
-          (take k (levels name)) && made) (sym (length_push c.loop-level.yielded c.in-Some.level));
-      unnamed = c.in_ok-add_placeholder-3.ensures.unnamed c.loop-level.invariant.unnamed;
-    }
-
-pub returns-clause-unnamed : goal.returns-clause-unnamed
-returns-clause-unnamed c = c.loop-level.invariant.unnamed
 
 pub returns-clause-shown : goal.returns-clause-shown
 returns-clause-shown c = λ text.
-    let name = c.args.topic.now in
-    let same = c.into_iter-level-iterator.ensures.into_iter_gives in
-    let end = YieldsList-end
-    (YieldsList-from_str_split 47 name (lit< tt)
-    (ap split_text same ∙ c.split-level-items.ensures.text ∙ c.text.ensures.text)
-    (ap split_has_more same ∙ c.split-level-items.ensures.has_more)
-    (ap split_pattern same ∙ c.split-level-items.ensures.pattern)) c.loop-level.yielded _
-    c.loop-level.yielded_by _ _ c.in-None.is c.next.ensures.steps in
-    c.loop-level.invariant.shown text
-    ∙ ap (λ ls. is_shown text c.args.client.now (option_copied c.args.user) ls
-    && is_placeholder text c.args.asked.now)
-    (take_all (length c.loop-level.yielded) (levels name) (omega (arith, end.1)))
+    let asked = c.args.asked.now in
+    let made = is_stand_in asked text in
+    let id = λ (t : List ℕ). is_part asked.rules text t && made in
+    let topic = list_any (bytes_eq text) (levels c.text.result.now) in
+    c.in_ok-add_levels.ensures.shown text
+    ∙ ap (λ b. b || (topic && made)) (c.in_ok-add_id-2.ensures.shown text
+    ∙ ap (λ b. b || id c.unwrap_or.result.now) (c.in_ok-add_id.ensures.shown text
+    ∙ ap (λ (texts : List (String Global)). has_text texts text || id c.args.client.now)
+    c.new-all.ensures.items))
+    ∙ all_shown asked.rules text c.args.client.now c.args.user c.unwrap_or.result c.args.client
+    topic made c.unwrap_or.ensures refl
+    ∙ ap (λ t. (is_part asked.rules text c.args.client.now
+    || is_user_part asked.rules text (option_copied c.args.user)
+    || list_any (bytes_eq text) (levels t)) && made) c.text.ensures.text
+
+pub returns-clause-unnamed : goal.returns-clause-unnamed
+returns-clause-unnamed c =
+    c.in_ok-add_levels.ensures.unnamed (c.in_ok-add_id-2.ensures.unnamed
+    (c.in_ok-add_id.ensures.unnamed
+    (subst (All (IsUnnamed c.args.asked.now)) (sym c.new-all.ensures.items)
+    (All-nil (IsUnnamed c.args.asked.now)))))

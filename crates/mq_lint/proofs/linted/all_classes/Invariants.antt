@@ -1,6 +1,6 @@
 use Rattle.std.proofs.Common.{◌≡◌, ◌∷◌, take}
 use Rattle.std.specs.Prelude.{map}
-use Rattle.mq_witness.specs.declared.clients.Clients.TheVariants.{Anonymous, Named, Others}
+use Rattle.mq_shapes.specs.declared.clients.Clients.TheVariants.{Anonymous, Named, Others}
 use Rattle.mq_lint.proofs.linted.all_classes.Given as goal
 
 -- those of the first user names

@@ -4,7 +4,6 @@ use Rattle.mq_acl.specs.declared.access.Direction.{Direction}
 use Rattle.mq_acl.specs.declared.row.Row.{Row}
 use Rattle.mq_witness.specs.Asked.{AskedRows}
 use Rattle.mq_witness.specs.declared.topics.Topics.TheVariants.{Open}
-use Rattle.mq_lint.specs.Needless.{AllowsNothing}
 use Rattle.mq_lint.specs.Cases.{AreClasses, Finds, FindsNone, granted_in}
 use Rattle.mq_lint.proofs.KindLemmas.{same_item}
 use Rattle.mq_lint.proofs.LoopLemmas.{all_done, all_more}
@@ -14,15 +13,13 @@ use Rattle.mq_lint.proofs.maker.concerned.Goals as goal
 pub returns-then-branch-clause-allows : goal.returns-then-branch-clause-allows
 returns-then-branch-clause-allows c =
     let q = c.question-question.result in
-    subst (λ rs. AllowsNothing c.args.lint.now.asked.rules rs (row_view c.args.row.now) → ⊥)
-    c.args.lint.now.is_lint.rows_are
-    (allows_some c.args.lint.now.asked q.clients (row_view c.args.row.now)
+    allows_some c.args.lint.now.asked q.clients (row_view c.args.row.now)
     (subst (λ (asked : AskedRows). Finds (Open (granted_in (row_view c.args.row.now).access)) asked
     q.clients (row_view c.args.row.now ∷ []) []) c.question-question.ensures.asked
     (subst (λ (r : Row). Finds (Open (granted_in (row_view c.args.row.now).access)) q.asked.now
     q.clients (row_view r ∷ []) []) c.question-question.ensures.row
     (subst (λ (d : Direction). Finds (Open d) q.asked.now q.clients (row_view q.row.now ∷ []) [])
-    c.granted_in.ensures (c.in_ok-stands_out.ensures.found c.if-branch.true)))))
+    c.granted_in.ensures (c.in_ok-stands_out.ensures.found c.if-branch.true))))
 
 pub loop-clients-preserved : goal.loop-clients-preserved
 loop-clients-preserved c =
@@ -48,9 +45,8 @@ returns-clause-none c =
     let asked = c.args.lint.now.asked in
     let row = row_view c.args.row.now in
     let items = c.deref-clients-items.result.now in
-    subst (λ rs. AllowsNothing asked.rules rs row) c.args.lint.now.is_lint.rows_are
-    (allows_nothing asked row items
+    allows_nothing asked row items
     (subst (AreClasses asked row.who) (sym c.deref-clients-items.ensures.value)
     c.in_ok-classes.ensures)
     (all_done (λ clients. FindsNone (Open (granted_in row.access)) asked clients (row ∷ []) []) items
-    c.loop-clients.clients-index c.loop-clients-test.false c.loop-clients.invariant))
+    c.loop-clients.clients-index c.loop-clients-test.false c.loop-clients.invariant)

@@ -13,7 +13,7 @@ returns-then-branch-clause-kind c =
     let row = row_view c.args.row.now in
     kept_beside asked.rules rows called row (repeated rows c.args.place row) c.args.kind c.requires.kind
     (sym c.is_needless.ensures ∙ c.if-not-is_needless.false)
-    (subst (λ all. Differ asked.rules all all (without_all (called ++ row ∷ []) all))
+    (subst (λ all. Differ asked.rules all (without_all (called ++ row ∷ []) all))
     c.args.lint.now.is_lint.rows_are
     (differs_beside asked.rules asked.rows called row c.requires.same
     (c.in_ok-is_needed_at.ensures.needed c.if-branch.true)))
@@ -26,7 +26,7 @@ returns-clause-kind c =
     let row = row_view c.args.row.now in
     called_beside asked.rules rows called row (repeated rows c.args.place row) c.args.kind c.requires.kind
     (sym c.is_needless.ensures ∙ c.if-not-is_needless.false)
-    (subst (λ all. AllowSame asked.rules all all (without_all (called ++ row ∷ []) all))
+    (subst (λ all. AllowSame asked.rules all (without_all (called ++ row ∷ []) all))
     c.args.lint.now.is_lint.rows_are
     (same_beside asked.rules asked.rows called row c.requires.same
     (c.in_ok-is_needed_at.ensures.needless c.if-branch.false)))

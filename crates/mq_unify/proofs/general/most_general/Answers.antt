@@ -1,6 +1,14 @@
 use Rattle.mq_unify.specs.Rows.{lent_rows}
-use Rattle.mq_unify.proofs.StandsLemmas.{is_most_general, lent_terms, no_general}
+use Rattle.mq_unify.proofs.StandsLemmas.{is_most_general, lent_terms, no_general, none_apart}
 use Rattle.mq_unify.proofs.general.most_general.Goals as goal
+
+pub returns-then-are_apart-clause-none : goal.returns-then-are_apart-clause-none
+returns-then-are_apart-clause-none c =
+    none_apart c.args.shape (lent_rows c.args.must.now) c.as_slice-all.result.now
+    (lent_terms c.args.shape (lent_rows c.args.must.now) c.in_ok-terms.terms.items
+    c.as_slice-all.result.now c.as_slice-all.ensures.value
+    (record { matched = c.in_ok-terms.ensures.matched; unlike = c.in_ok-terms.ensures.unlike }))
+    (c.are_apart.ensures c.if-are_apart.true)
 
 pub returns-then-not-branch-clause-none : goal.returns-then-not-branch-clause-none
 returns-then-not-branch-clause-none c =

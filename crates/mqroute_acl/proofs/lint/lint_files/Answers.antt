@@ -1,4 +1,4 @@
-use Rattle.std.proofs.Common.{◌∙◌, ap, refl}
+use Rattle.std.proofs.Common.{ap, refl}
 use Rattle.mqroute_acl.proofs.FilesLemmas.{kept_among, kept_more, linted_all, linted_more, linted_none}
 use Rattle.mqroute_acl.proofs.FilesLemmas.{taken_all, taken_more, taken_none}
 use Rattle.mqroute_acl.proofs.lint.lint_files.Goals as goal
@@ -6,7 +6,6 @@ use Rattle.mqroute_acl.proofs.lint.lint_files.Goals as goal
 pub loop-file-init : goal.loop-file-init
 loop-file-init g c = record {
   kept = λ none. refl;
-  quiet = λ own. refl;
   linted = linted_none c.args.options.rules (g.I.Read.remaining c.args.input.now);
   taken = taken_none (g.I.Read.remaining c.args.input.now);
 }
@@ -19,7 +18,6 @@ loop-file-preserved g c =
     record {
       kept = kept_more c.args.input.now at.input c.lint_file.new.input files at.file-index _
           c.loop-file-test.true at.invariant.kept c.lint_file.ensures.kept;
-      quiet = λ own. c.in_ok-linted.ensures.quiet own ∙ at.invariant.quiet own;
       linted =
           rw c.and-outcome.ensures
           (linted_more c.args.options.rules (known c.args.input.now) (known at.input) files at.file-index _ at.outcome

@@ -1,12 +1,10 @@
 use Rattle.std.proofs.Common.{◌≡◌, take}
-use Rattle.mq_acl.specs.declared.rules.Rules.TheVariants.{Own}
 use Rattle.mq_acl_args.specs.Files.{input_count}
 use Rattle.mqroute_acl.specs.Lint.{AreLinted, SaysWhetherAllTaken}
 use Rattle.mqroute_acl.proofs.FilesLemmas.{texts}
 use Rattle.mqroute_acl.proofs.lint.lint_files.Given as goal
 
--- the files so far are linted; where none of them is standard input, it is left alone; and by our own
--- rules nothing is noted
+-- the files so far are linted; where none of them is standard input, it is left alone
 abbrev pub invariant-loop-file : goal.invariant-loop-file
 invariant-loop-file g l = record {
   kept : input_count (texts (take l.file-index l.files)) ≡ 0
@@ -15,5 +13,4 @@ invariant-loop-file g l = record {
       l.outcome;
   taken : SaysWhetherAllTaken (g.I.Read.remaining l.initial.input) (texts (take l.file-index l.files))
       l.refused;
-  quiet : l.options.rules ≡ Own → l.notes ≡ l.initial.notes;
 }

@@ -11,5 +11,4 @@ invariant_of-result c = record {
       c.in_ok-classes.ensures
       (λ user. ap (is_among user) c.deref.ensures.value ∙ c.in_ok-users.ensures.users user)
       (sym c.in-Ok.ensures.rules);
-  ids_are = c.ids_of.ensures;
 }

@@ -2,6 +2,8 @@ use Rattle.std.proofs.Common.{string_bytes}
 use Rattle.std.proofs.lemmas.Result.{IfOk-weaker}
 use Rattle.mq_unify.specs.Joined.{user_view}
 use Rattle.mq_unify.specs.Rows.{lent_rows}
+use Rattle.mq_cover.specs.Choices.{other_at}
+use Rattle.mq_shapes.proofs.PassLemmas.{passes_unnamed}
 use Rattle.mq_shapes.proofs.TextLemmas.{found_unnamed, if_none, if_some, none_unnamed}
 use Rattle.mq_shapes.proofs.every.Search.unnamed.Goals as goal
 
@@ -18,3 +20,10 @@ returns-clause-some c =
     IfOk-weaker c.with_user.result _ _ (if_some (λ found. found_unnamed self.start self.users.now
     (lent_rows self.must.now) (lent_rows self.cover.now) (string_bytes found.client)
     (user_view found.user) (string_bytes found.topic))) c.with_user.ensures.some
+
+pub returns-clause-pass : goal.returns-clause-pass
+returns-clause-pass c =
+    let self = c.args.self.now in
+    IfOk-weaker c.with_user.result _ _ (if_some (λ found. passes_unnamed self.others
+    (other_at self.start self.others) (lent_rows self.must.now) (string_bytes found.client)
+    (user_view found.user) (string_bytes found.topic) c.requires.must)) c.with_user.ensures.pass

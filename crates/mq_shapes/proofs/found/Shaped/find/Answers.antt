@@ -93,3 +93,21 @@ returns-then-not-has_texts-clause-none c =
     (rw c.in-Some.is at c.in_ok-general.ensures.some) in
     none_empty self.others self.start self.shape self.users.now must cover self.ready client user
     general (sym c.has_texts.ensures ∙ c.if-not-has_texts.true)
+
+pub returns-clause-pass : goal.returns-clause-pass
+returns-clause-pass c = λ test plain dollar fresh fit known asked.
+    let self = c.args.self.now in
+    let client = string_bytes c.in-Some.general.client in
+    let user = user_view c.in-Some.general.user in
+    let must = lent_rows self.must.now in
+    let cover = lent_rows self.cover.now in
+    let general = general_is self.others self.start self.shape self.users.now must cover self.ready
+    c.prefix.result.now client user c.prefix.ensures
+    (rw c.in-Some.is at c.in_ok-general.ensures.some) in
+    let texts = general.pass test fresh fit known in
+    let topic = rw c.in-Some-topic.is at c.in_ok-topic.ensures.pass in
+    record {
+      client_passes = texts.0;
+      user_passes = texts.1;
+      topic_passes = topic test plain dollar fit texts.0 texts.1 asked;
+    }

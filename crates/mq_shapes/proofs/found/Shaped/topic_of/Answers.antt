@@ -7,7 +7,9 @@ use Rattle.mq_unify.specs.Rows.{lent_rows}
 use Rattle.mq_shapes.specs.Filled.{text_levels}
 use Rattle.mq_shapes.specs.Found.{all_fit}
 use Rattle.mq_shapes.proofs.RowLemmas.{as_client, empty_choice, filled_fit, none_of_rows}
+use Rattle.mq_shapes.proofs.PassLemmas.{client_fit}
 use Rattle.mq_shapes.proofs.RowLemmas.{topic_of_rows, user_levels_fit}
+use Rattle.mq_shapes.proofs.TextLemmas.{if_some}
 use Rattle.mq_shapes.proofs.found.Shaped.topic_of.Goals as goal
 
 pub topic-requires-clause-must : goal.topic-requires-clause-must
@@ -73,3 +75,16 @@ returns-clause-some c =
     c.in_ok-row_texts.ensures)
     (are cover c.names_of-names.ensures.client c.names_of-names.ensures.user others
     c.in_ok-row_texts-2.ensures)) c.topic.ensures.some
+
+pub returns-clause-pass : goal.returns-clause-pass
+returns-clause-pass c =
+    let client = string_bytes c.args.general.now.client in
+    let user = user_view c.args.general.now.user in
+    let must = lent_rows c.args.self.now.must.now in
+    let firsts = text_levels c.in_ok-row_texts.field-0.items in
+    let are = as_client c.names_of-names.result.client.now client c.names_of-names.result.user.now
+    (unwrap_or user []) must c.names_of-names.ensures.client c.names_of-names.ensures.user firsts
+    c.in_ok-row_texts.ensures in
+    IfOk-weaker c.topic.result _ _ (if_some (λ topic so. λ test plain dollar fit ids names asked.
+    so test plain dollar (ap (all_fit test) are ∙ client_fit test client user must
+    c.args.self.now.ready.rows.must_ready.whole fit ids names asked))) c.topic.ensures.pass

@@ -41,6 +41,17 @@ returns-in_ok-show-in-Some-clause-stands c =
     (found_shown c.args.self.now can.asked_can has
     (some_at _ _ _ c.in-Some.is c.in_ok-found.ensures.some))
 
+pub returns-in_ok-show-in-Some-clause-some : goal.returns-in_ok-show-in-Some-clause-some
+returns-in_ok-show-in-Some-clause-some c =
+    let can = can_answer c.self.view_is c.self.invariant.0 in
+    let has : HasTexts c.in-Some.found c.in_ok-show-in-Some.field-0 = record {
+      client = c.in_ok-show-in-Some.ensures.client;
+      user = c.in_ok-show-in-Some.ensures.user;
+      name = c.in_ok-show-in-Some.ensures.name;
+    } in
+    found_shown c.args.self.now can.asked_can has
+    (some_at _ _ _ c.in-Some.is c.in_ok-found.ensures.some)
+
 pub returns-in_ok-show-in-Some-clause-known : goal.returns-in_ok-show-in-Some-clause-known
 returns-in_ok-show-in-Some-clause-known c =
     let both : BothFresh = record { plain = c.fresh.result; dollar = c.fresh-2.result } in

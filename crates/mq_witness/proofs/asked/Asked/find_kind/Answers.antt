@@ -1,6 +1,7 @@
 use Rattle.std.proofs.Common.{sym, ◌∙◌, ap}
 use Rattle.mq_witness.specs.Asked.{AskedRows}
-use Rattle.mq_witness.proofs.RuledLemmas.{own_kind, own_none, own_shown}
+use Rattle.mq_witness.proofs.RuledLemmas.{own_kind, own_known, own_none, own_shown}
+use Rattle.mq_witness.proofs.RuledLemmas.{own_stands}
 use Rattle.mq_witness.proofs.TryLemmas.{none_follows, some_follows}
 use Rattle.mq_witness.proofs.asked.Asked.find_kind.Goals as goal
 
@@ -20,7 +21,13 @@ returns-in-Own-clause-kind c =
 
 pub returns-in-Own-clause-stands : goal.returns-in-Own-clause-stands
 returns-in-Own-clause-stands c =
+    let own = ap (λ (s : AskedRows). s.rules) (sym c.self.view_is) ∙ c.in-Own.is in
     some_follows c.find_in.result
-    (λ w h text other stands valid taken. own_shown c.args.self.now c.args.topics
-    (ap (λ (s : AskedRows). s.rules) (sym c.self.view_is) ∙ c.in-Own.is)
-    (h text other stands valid)) c.find_in.ensures.stands
+    (λ w h. own_stands c.args.self.now c.args.topics own w
+    (λ text other stands valid taken. own_shown c.args.self.now c.args.topics own
+    (h text other stands valid))) c.find_in.ensures.stands
+
+pub returns-in-Own-clause-known : goal.returns-in-Own-clause-known
+returns-in-Own-clause-known c =
+    let own = ap (λ (s : AskedRows). s.rules) (sym c.self.view_is) ∙ c.in-Own.is in
+    some_follows c.find_in.result (own_known c.args.self.now own) c.find_in.ensures.known
