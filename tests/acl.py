@@ -83,12 +83,12 @@ may not write: no line allows it
     (["reach", "current.acl", "press", "mill/line1/#", "--user", "Plc"], 1,
      "client press, user Plc: mill/line1/# can be sent nothing\n"
      "no line names user Plc; plc?\n"),
-    (["reach", "current.acl", "--any", "mill/orders/#"], 0,
+    (["reach", "current.acl", "--any", "mill/orders/#"], 1,
      "any client id, no user name: mill/orders/# can be sent mill/orders/<client id>\n"
      "    current.acl:16  pattern read mill/orders/%c\n"),
-    (["reach", "current.acl", "--any", "mill/line1/#", "--user", "plc"], 1,
+    (["reach", "current.acl", "--any", "mill/line1/#", "--user", "plc"], 0,
      "any client id, user plc: mill/line1/# can be sent nothing\n"),
-    (["reach", "--json", "current.acl", "--any", "mill/line1/#", "--user", "plc"], 1,
+    (["reach", "--json", "current.acl", "--any", "mill/line1/#", "--user", "plc"], 0,
      '{"client":null,"filter":"mill/line1/#","line":null,"placeholders":[],"topic":null,'
      '"user":"plc"}\n'),
     (["reach", "--json", "current.acl", "press", "$share/g/mill/orders/+", "--user=plc"], 0,

@@ -134,7 +134,7 @@ def faults_of_any(rules, run, folder, user, wanted, rows, asked_about):
             yield f"reach --any {wanted}: user {user}: status {done.returncode}: {done.stdout}"
         return
     shown = json.loads(done.stdout)
-    if done.returncode != (1 if shown["topic"] is None else 0) or shown["user"] != user:
+    if done.returncode != (0 if shown["topic"] is None else 1) or shown["user"] != user:
         yield f"reach --any {wanted}: status {done.returncode}: {shown}"
     yield from faults_of_words(
         run, folder, ["reach", *rules.words, "--json", "old.acl", f"--any={wanted}", *named],

@@ -19,12 +19,12 @@ our own, and leaves out none. A file - is standard input.
 Exit status:
   0  compare: both lists allow the same, or differ only in the other way than
      --only says. lint: no remark, or only on lines that deny nothing. reach:
-     each subscription can receive something. who: answered, or with --except
-     nobody else may. why: answered, or with --may the client may. test: each
-     line of EXPECTED holds
-  1  the lists differ, lint has a remark, a subscription can receive nothing,
-     somebody other than those of --except may, the client may not, or a line of
-     EXPECTED doesn't hold
+     each subscription can receive something, or with --any nobody can. who:
+     answered, or with --except nobody else may. why: answered, or with --may the
+     client may. test: each line of EXPECTED holds
+  1  the lists differ, lint has a remark, a subscription can receive nothing, or
+     with --any somebody can receive something, somebody other than those of
+     --except may, the client may not, or a line of EXPECTED doesn't hold
   2  the arguments aren't understood, an access list can't be opened, read or
      understood, EXPECTED can't be opened or read or expects nothing, a line of
      QUESTIONS asks nothing, a script can't be opened or read or has no command,
@@ -174,8 +174,8 @@ A client receives what its filter matches and the list lets it read. Shown is a
 topic that a subscription to FILTER can receive, or that there is none.
 
 With --any FILTER, in place of CLIENT and FILTER, the answer is about all client
-ids at once: if it is nothing, none of them receives anything. A user that no line
-of the list is for is refused. A step is a look at one line for one question, or
+ids at once: if it is nothing, none of them receives anything, and the status is
+0. A user that no line of the list is for is refused. A step is a look at one line for one question, or
 as much work as that takes. When the steps are spent, there is no answer.
 
 --script SCRIPT, in place of CLIENT and FILTER, lists those subscriptions of the

@@ -45,8 +45,8 @@ NoneMayRead rules rows user wanted = (client topic : List ℕ) → can_be_id cli
 
 abbrev pub SaysWhetherAny : Rules → List AclRow → (user : Option (List ℕ)) → (wanted : List ℕ)
     → Outcome → Type 0
-SaysWhetherAny rules rows user wanted Clear = AnyMayRead rules rows user wanted
-SaysWhetherAny rules rows user wanted Remark = NoneMayRead rules rows user wanted
+SaysWhetherAny rules rows user wanted Clear = NoneMayRead rules rows user wanted
+SaysWhetherAny rules rows user wanted Remark = AnyMayRead rules rows user wanted
 
 -- and so is it of the list with this text
 pub record IsReachedByAny (rules : Rules) (text : List ℕ) (user : Option (List ℕ))

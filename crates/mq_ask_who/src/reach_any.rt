@@ -101,8 +101,8 @@ fn outcome_of(found: &Option<Difference>) -> Outcome
         → SaysWhetherAny rules (row_views rows) user wanted result }
 {
     match found {
-        None => Outcome::Remark,
-        Some(_) => Outcome::Clear,
+        None => Outcome::Clear,
+        Some(_) => Outcome::Remark,
     }
 }
 
