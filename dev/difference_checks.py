@@ -10,7 +10,6 @@ that a line is for, and all others.
 
 What isn't answered is counted: lists that mosquitto drops or that have a mark inside a level.
 """
-import argparse
 import json
 import pathlib
 import random
@@ -21,7 +20,8 @@ from dataclasses import dataclass
 
 from access.broker import asked
 from access.lists import Client, Group, is_kept, line, random_group, random_list
-from access.seen import Fault, seeded_of
+from access.run import parser_of, run
+from access.seen import seeded_of
 
 TOP = pathlib.Path(__file__).resolve().parent.parent
 PATIENCE = 120  # seconds that an answer may take
@@ -156,23 +156,18 @@ def ask_pair(options, chance, sums):
 
 
 def main():
-    parser = argparse.ArgumentParser(description=__doc__.partition("\n\n")[0])
-    parser.add_argument("--broker", default="mosquitto", metavar="PROGRAM")
+    parser = parser_of(__doc__)
     parser.add_argument("--mqroute-acl", default=TOP / "bin/mqroute-acl", metavar="PROGRAM")
-    parser.add_argument("--seed", type=int, default=1, metavar="N")
     parser.add_argument("--pairs", type=int, default=1000, metavar="N",
                         help="end after so many pairs that are answered (default 1000)")
     options = parser.parse_args()
     chance, sums = random.Random(options.seed), Sums()
-    try:
+
+    def ask_all():
         while sums.pairs < options.pairs:
             ask_pair(options, chance, sums)
-        status = 1 if sums.faults else 0
-    except (Fault, OSError, subprocess.SubprocessError) as fault:
-        print(f"difference_checks: {fault}", file=sys.stderr)
-        status = 2
-    print(sums.in_words())
-    return status
+
+    return run("difference_checks", ask_all, sums)
 
 
 if __name__ == "__main__":
